@@ -1,5 +1,5 @@
 -- A desk in memory whose list of failing calls is empty.
-use Rattle.std.proofs.Common.{◌≡◌, [], Bool, false, ap}
+use Rattle.std.proofs.Common.{◌≡◌, [], false, ap}
 use Rattle.cp_io.specs.declared.role.Role.{Role}
 use Rattle.cp_io.specs.declared.memory.MemDesk.{MemDesk}
 use Rattle.cp_io.specs.Slots.{next_count}

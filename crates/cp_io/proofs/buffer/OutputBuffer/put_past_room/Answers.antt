@@ -1,5 +1,4 @@
 use Rattle.std.proofs.Common.{[], sym, ◌∙◌, ap}
-use Rattle.cp_io.specs.Prints.{Buffered}
 use Rattle.cp_io.proofs.Printing.{Prints-long, Prints-lost}
 use Rattle.cp_io.proofs.buffer.OutputBuffer.put_past_room.Goals as goal
 
