@@ -16,12 +16,12 @@ same_pair b bs e h = cc
 -- a text without an end is one line
 pub lines_of-no_end : (text : List ℕ) → end_of text ≡ None → lines_of text ≡ text ∷ []
 lines_of-no_end [] h = refl
-lines_of-no_end (b ∷ bs) h = go (eqb b 32) (eqb b 10) h
+lines_of-no_end (b ∷ bs) h = go (eqb b 32) (eqb b 10) h (lines_of-no_end bs)
   where
-    go : (s f : Bool) → cond (s || f) (Some (b, bs)) (end_of bs) ≡ None → cond f ([] ∷ lines_of bs) (onto_first b (lines_of bs)) ≡ (b ∷ bs) ∷ []
-    go true f h = absurd cc
-    go false true h = absurd cc
-    go false false h = ap (onto_first b) (lines_of-no_end bs h)
+    go : (s f : Bool) → cond (s || f) (Some (b, bs)) (end_of bs) ≡ None → (end_of bs ≡ None → lines_of bs ≡ bs ∷ []) → cond f ([] ∷ lines_of bs) (onto_first b (lines_of bs)) ≡ (b ∷ bs) ∷ []
+    go true f h more = absurd cc
+    go false true h more = absurd cc
+    go false false h more = ap (onto_first b) (more h)
 
 -- a word that a line feed ends is its line
 pub lines_of-feed : (text : List ℕ) (e : ℕ × List ℕ) → end_of text ≡ Some e → e.0 ≡ 10 → lines_of text ≡ first_word text ∷ lines_of e.1
@@ -52,21 +52,21 @@ lines_of-space (b ∷ bs) e line lines h is left = go (eqb b 32) (eqb b 10) refl
 -- a word has no space within
 pub words_of-word : (text : List ℕ) → words_of (first_word text) ≡ first_word text ∷ []
 words_of-word [] = refl
-words_of-word (b ∷ bs) = go (eqb b 32) (eqb b 10) refl
+words_of-word (b ∷ bs) = go (eqb b 32) (eqb b 10) refl (words_of-word bs)
   where
-    go : (s f : Bool) → eqb b 32 ≡ s → words_of (cond (s || f) [] (b ∷ first_word bs)) ≡ cond (s || f) [] (b ∷ first_word bs) ∷ []
-    go true f p = refl
-    go false true p = refl
-    go false false p = rw p (ap (onto_first b) (words_of-word bs))
+    go : (s f : Bool) → eqb b 32 ≡ s → words_of (first_word bs) ≡ first_word bs ∷ [] → words_of (cond (s || f) [] (b ∷ first_word bs)) ≡ cond (s || f) [] (b ∷ first_word bs) ∷ []
+    go true f p more = refl
+    go false true p more = refl
+    go false false p more = rw p (ap (onto_first b) more)
 
 pub words_of-space : (text line : List ℕ) → words_of (first_word text ++ 32 ∷ line) ≡ first_word text ∷ words_of line
 words_of-space [] line = refl
-words_of-space (b ∷ bs) line = go (eqb b 32) (eqb b 10) refl
+words_of-space (b ∷ bs) line = go (eqb b 32) (eqb b 10) refl (words_of-space bs line)
   where
-    go : (s f : Bool) → eqb b 32 ≡ s → words_of (cond (s || f) [] (b ∷ first_word bs) ++ 32 ∷ line) ≡ cond (s || f) [] (b ∷ first_word bs) ∷ words_of line
-    go true f p = refl
-    go false true p = refl
-    go false false p = rw p (ap (onto_first b) (words_of-space bs line))
+    go : (s f : Bool) → eqb b 32 ≡ s → words_of (first_word bs ++ 32 ∷ line) ≡ first_word bs ∷ words_of line → words_of (cond (s || f) [] (b ∷ first_word bs) ++ 32 ∷ line) ≡ cond (s || f) [] (b ∷ first_word bs) ∷ words_of line
+    go true f p more = refl
+    go false true p more = refl
+    go false false p more = rw p (ap (onto_first b) more)
 
 -- an end is a space or a line feed, and less is left behind it
 pub end_of-kinds : (text : List ℕ) (e : ℕ × List ℕ) → end_of text ≡ Some e → (e.0 ≡ 32) ⊎ (e.0 ≡ 10)
