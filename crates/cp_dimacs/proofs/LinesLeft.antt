@@ -2,7 +2,7 @@
 use Rattle.std.proofs.Common.{◌≡◌, ◌≢◌, ◌⊎◌, ℕ, suc, ◌+◌, ◌*◌, ◌^◌, ◌<◌, ◌≤◌, min, Bool, true, false, eqb, ltb, cond, List, [], ◌∷◌, ◌++◌, length, sum_by, Option, Some, None, refl, sym, ◌∙◌, ap, subst, append_assoc, arith, inl, inr}
 use Rattle.std.specs.Option.{option_map, option_and_then, ForSome}
 use Rattle.std.proofs.lemmas.Bool.Decides.{nat_tests}
-use Rattle.std.proofs.lemmas.Bool.{eq-eqb, ne_eqb, lt-ltb, cases_lt}
+use Rattle.std.proofs.lemmas.Bool.{eq-eqb, ne_eqb, lt-ltb, le-ltb, cases_lt}
 use Rattle.std.proofs.lemmas.List.{length-append, append-nil}
 use Rattle.std.proofs.lemmas.List.Sums.{sum_by-cons}
 use Rattle.cp_dimacs.specs.Plain.{Number, number_of, code_of, literals_of, clauses_in, lines_of, words_of}
@@ -29,6 +29,10 @@ behind-nothing variables b bytes = go (eqb b 10) (some_part 10 bytes)
         → clauses_behind variables [] (cond feed ([] ∷ lines_of bytes) (Rattle.std.specs.List.onto_first b (lines_of bytes))) ≡ clauses_in variables (cond feed ([] ∷ lines_of bytes) (Rattle.std.specs.List.onto_first b (lines_of bytes)))
     go true rest = rw rest.2 refl
     go false rest = rw rest.2 (other (b ∷ rest.0) rest.1 (omega arith))
+
+pub behind-start : (variables : ℕ) (text : List ℕ) → 0 < length text → clauses_behind variables [] (lines_of text) ≡ clauses_in variables (lines_of text)
+behind-start variables [] some = absurd (omega arith)
+behind-start variables (b ∷ bytes) some = behind-nothing variables b bytes
 
 -- a text without an end
 pub behind-no_end : (variables : ℕ) (literals text : List ℕ) → end_of text ≡ None → clauses_behind variables literals (lines_of text) ≡ None
@@ -179,3 +183,41 @@ behind-literal variables literals text a h low some is =
     go (inr within) =
         let size : h.number.size ≡ a.size = omega (arith, h.same_size) in
         rw (h.same_sign, ← size) refl
+
+pub behind-too_great : (variables : ℕ) (literals text : List ℕ) (a : NumberAhead) → IsAhead text a → variables < 2 ^ 28 → a.size ≢ 0 → a.end ≡ 32 → variables < a.size → clauses_behind variables literals (lines_of text) ≡ None
+behind-too_great variables literals text a h low some is past =
+    behind-literal variables literals text a h low some is
+    ∙ ap (λ b. cond b None (clauses_behind variables (literals ++ code_of (record { positive = a.positive; size = a.size }) ∷ []) (lines_of a.rest))) (lt-ltb variables a.size past)
+
+pub behind-within : (variables : ℕ) (literals text : List ℕ) (a : NumberAhead) → IsAhead text a → variables < 2 ^ 28 → a.size ≢ 0 → a.end ≡ 32 → a.size ≤ variables
+    → clauses_behind variables literals (lines_of text) ≡ clauses_behind variables (literals ++ code_of (record { positive = a.positive; size = a.size }) ∷ []) (lines_of a.rest)
+behind-within variables literals text a h low some is within =
+    behind-literal variables literals text a h low some is
+    ∙ ap (λ b. cond b None (clauses_behind variables (literals ++ code_of (record { positive = a.positive; size = a.size }) ∷ []) (lines_of a.rest))) (le-ltb variables a.size within)
+
+-- where nothing is found, nothing of it is to be shown
+pub none_found : {A : Type 0} (P : A → Type 0) (o : Option A) → o ≡ None → ForSome o P
+none_found P o none x is = absurd cc
+
+-- the literals that were read are among those of the clauses
+pub behind-longer : (variables : ℕ) (literals : List ℕ) (lines clauses : List (List ℕ)) → clauses_behind variables literals lines ≡ Some clauses → length literals ≤ sum_by length clauses
+behind-longer variables literals [] clauses h = absurd cc
+behind-longer variables literals (line ∷ lines) clauses h = go (literals_of variables (words_of line)) (clauses_in variables lines) h
+  where
+    first : (ls : List ℕ) (others : List (List ℕ)) → Some ((literals ++ ls) ∷ others) ≡ Some clauses → length literals ≤ sum_by length clauses
+    first ls others h = let same : (literals ++ ls) ∷ others ≡ clauses = cc in rw (← same) (omega (arith, sum_by-cons length (literals ++ ls) others, length-append literals ls))
+    go : (found : Option (List ℕ)) (o : Option (List (List ℕ))) → option_and_then (λ more. option_map (λ clauses. (literals ++ more) ∷ clauses) o) found ≡ Some clauses → length literals ≤ sum_by length clauses
+    go None o h = absurd cc
+    go (Some ls) None h = absurd cc
+    go (Some ls) (Some others) h = first ls others h
+
+-- one literal more than there may be
+pub too_many : (variables most : ℕ) (literals text : List ℕ) (a : NumberAhead) → IsAhead text a → variables < 2 ^ 28 → a.size ≢ 0 → a.end ≡ 32 → most ≤ length literals
+    → ForSome (clauses_behind variables literals (lines_of text)) (λ clauses. most < sum_by length clauses)
+too_many variables most literals text a h low some is full clauses found = go (cases_lt variables a.size) (sym (behind-literal variables literals text a h low some is) ∙ found)
+  where
+    go : (variables < a.size) ⊎ (a.size ≤ variables) → cond (ltb variables a.size) None (clauses_behind variables (literals ++ code_of (record { positive = a.positive; size = a.size }) ∷ []) (lines_of a.rest)) ≡ Some clauses → most < sum_by length clauses
+    go (inl past) e = let none = rw (lt-ltb variables a.size past) at e in absurd cc
+    go (inr within) e =
+        let rest = rw (le-ltb variables a.size within) at e in
+        omega (arith, behind-longer variables (literals ++ code_of (record { positive = a.positive; size = a.size }) ∷ []) (lines_of a.rest) clauses rest, length-append literals (code_of (record { positive = a.positive; size = a.size }) ∷ []))
