@@ -5,12 +5,13 @@ use Rattle.std.specs.Option.{option_map, option_and_then}
 use Rattle.std.specs.List.{join_with_byte}
 use Rattle.std.specs.Str.{bytes_eq}
 use Rattle.std.proofs.lemmas.Bool.Decides.{nat_tests}
+use Rattle.std.proofs.lemmas.Bool.{lt-leb, le-leb}
 use Rattle.std.proofs.lemmas.List.Splits.{join_with_byte-slice_split}
 use Rattle.std.proofs.lemmas.Slice.Eq.{bytes_eq-Decides}
 use Rattle.cp_logic.specs.Formulas.{Formula}
 use Rattle.cp_io.specs.declared.limits.Limits.{Limits}
 use Rattle.cp_dimacs.specs.Plain.{Number, number_of, clauses_in, header_of, formula_in, lines_of, words_of}
-use Rattle.cp_dimacs.specs.Ahead.{NumberAhead, first_word, end_of, capped}
+use Rattle.cp_dimacs.specs.Ahead.{NumberAhead, first_word, end_of, capped, ahead_of, number_ahead}
 use Rattle.cp_dimacs.specs.Reads.{formula_from}
 use Rattle.cp_dimacs.proofs.FirstWords.{lines_of-no_end, lines_of-feed, lines_of-space, words_of-word, words_of-space, end_of-kinds, some_part}
 use Rattle.cp_dimacs.proofs.LinesLeft.{IsAhead}
@@ -43,6 +44,9 @@ pub behind-name : (limits : Limits) (text : List ℕ) → formula_in limits (lin
 behind-name limits text =
     let left = some_part 10 text in
     rw left.2 (ap (option_and_then (λ variables. formula_from limits variables (clauses_in limits.variables left.1))) (header-words limits.variables (words_of left.0)))
+
+pub behind_name : (limits : Limits) (bytes text : List ℕ) → bytes ≡ codes "p cnf " ++ text → formula_in limits (lines_of bytes) ≡ formula_behind limits (counts_of limits.variables) (lines_of text)
+behind_name limits bytes text is = rw is (behind-name limits text)
 
 -- bytes without the name of the format
 pub no_name : (limits : Limits) (bytes : List ℕ) → ((rest : List ℕ) → bytes ≢ codes "p cnf " ++ rest) → formula_in limits (lines_of bytes) ≡ None
@@ -102,3 +106,84 @@ pub count-feed : (limits : Limits) (n : Number) (text : List ℕ) (e : ℕ × Li
     → formula_behind limits (count_of limits.variables n) (lines_of text)
     ≡ option_and_then (λ variables. formula_from limits variables (clauses_in limits.variables (lines_of e.1))) (option_and_then (λ m. cond (n.positive && m.positive && leb n.size limits.variables) (Some n.size) None) (number_of (first_word text)))
 count-feed limits n text e h is = rw (lines_of-feed text e h is, words_of-word text) refl
+
+-- ---- by the numbers that a reader found
+
+never : (most : ℕ) (n : Number) → ((s : Bool) → (n.positive && s && leb n.size most) ≡ false) → (words : List (List ℕ)) → count_of most n words ≡ None
+never most n h [] = refl
+never most n h (c ∷ []) = go (number_of c)
+  where
+    go : (o : Option Number) → option_and_then (λ m. cond (n.positive && m.positive && leb n.size most) (Some n.size) None) o ≡ None
+    go None = refl
+    go (Some m) = ap (λ b. cond b (Some n.size) None) (h m.positive)
+never most n h (c ∷ d ∷ words) = refl
+
+and_false : (b : Bool) → (b && false) ≡ false
+and_false true = refl
+and_false false = refl
+
+pub no_variables : (limits : Limits) (text : List ℕ) → None ≡ number_ahead text → formula_behind limits (counts_of limits.variables) (lines_of text) ≡ None
+no_variables limits text h = go (end_of text) (number_of (first_word text)) refl refl h
+  where
+    go : (e : Option (ℕ × List ℕ)) (n : Option Number) → end_of text ≡ e → number_of (first_word text) ≡ n → None ≡ option_and_then (λ e. option_map (λ n. ahead_of n e) n) e → formula_behind limits (counts_of limits.variables) (lines_of text) ≡ None
+    go None n p q h = no_line limits (counts_of limits.variables) text p
+    go (Some e) (Some n) p q h = absurd cc
+    go (Some e) None p q h = elim (end_of-kinds text e p) [
+      | inl is ↦ variables-space limits text e p is ∙ ap (option_and_then (λ n. formula_behind limits (count_of limits.variables n) (lines_of e.1))) q
+      | inr is ↦ variables-feed limits text e p is
+    ]
+
+pub after_variables : (limits : Limits) (text : List ℕ) (a : NumberAhead) → (h : IsAhead text a) → a.end ≡ 32 → formula_behind limits (counts_of limits.variables) (lines_of text) ≡ formula_behind limits (count_of limits.variables h.number) (lines_of a.rest)
+after_variables limits text a h is =
+    variables-space limits text (a.end, a.rest) h.end is ∙ ap (option_and_then (λ n. formula_behind limits (count_of limits.variables n) (lines_of a.rest))) h.word
+
+pub variables_alone : (limits : Limits) (text : List ℕ) (a : NumberAhead) → IsAhead text a → a.end ≢ 32 → formula_behind limits (counts_of limits.variables) (lines_of text) ≡ None
+variables_alone limits text a h apart = elim (end_of-kinds text (a.end, a.rest) h.end) [
+  | inl is ↦ absurd (apart is)
+  | inr is ↦ variables-feed limits text (a.end, a.rest) h.end is
+]
+
+pub negative_variables : (limits : Limits) (text : List ℕ) (a : NumberAhead) → IsAhead text a → a.end ≡ 32 → a.positive ≡ false → formula_behind limits (counts_of limits.variables) (lines_of text) ≡ None
+negative_variables limits text a h is minus =
+    let sign : h.number.positive ≡ false = sym h.same_sign ∙ minus in
+    after_variables limits text a h is ∙ no_count limits (count_of limits.variables h.number) (lines_of a.rest) (never limits.variables h.number (λ s. rw sign refl))
+
+pub too_many_variables : (limits : Limits) (text : List ℕ) (a : NumberAhead) → IsAhead text a → a.end ≡ 32 → limits.variables < a.size → formula_behind limits (counts_of limits.variables) (lines_of text) ≡ None
+too_many_variables limits text a h is past =
+    let low : leb h.number.size limits.variables ≡ false = lt-leb h.number.size limits.variables (omega (arith, h.same_size)) in
+    after_variables limits text a h is ∙ no_count limits (count_of limits.variables h.number) (lines_of a.rest) (never limits.variables h.number (λ s. rw low (and_false (h.number.positive && s))))
+
+pub no_clauses : (limits : Limits) (n : Number) (text : List ℕ) → None ≡ number_ahead text → formula_behind limits (count_of limits.variables n) (lines_of text) ≡ None
+no_clauses limits n text h = go (end_of text) (number_of (first_word text)) refl refl h
+  where
+    go : (e : Option (ℕ × List ℕ)) (m : Option Number) → end_of text ≡ e → number_of (first_word text) ≡ m → None ≡ option_and_then (λ e. option_map (λ n. ahead_of n e) m) e → formula_behind limits (count_of limits.variables n) (lines_of text) ≡ None
+    go None m p q h = no_line limits (count_of limits.variables n) text p
+    go (Some e) (Some m) p q h = absurd cc
+    go (Some e) None p q h = elim (end_of-kinds text e p) [
+      | inl is ↦ count-space limits n text e p is
+      | inr is ↦ count-feed limits n text e p is ∙ ap (λ (o : Option Number). option_and_then (λ variables. formula_from limits variables (clauses_in limits.variables (lines_of e.1))) (option_and_then (λ m. cond (n.positive && m.positive && leb n.size limits.variables) (Some n.size) None) o)) q
+    ]
+
+pub more_words : (limits : Limits) (n : Number) (text : List ℕ) (a : NumberAhead) → IsAhead text a → a.end ≢ 10 → formula_behind limits (count_of limits.variables n) (lines_of text) ≡ None
+more_words limits n text a h apart = elim (end_of-kinds text (a.end, a.rest) h.end) [
+  | inl is ↦ count-space limits n text (a.end, a.rest) h.end is
+  | inr is ↦ absurd (apart is)
+]
+
+clauses-feed : (limits : Limits) (n : Number) (text : List ℕ) (a : NumberAhead) → (h : IsAhead text a) → a.end ≡ 10
+    → formula_behind limits (count_of limits.variables n) (lines_of text)
+    ≡ option_and_then (λ variables. formula_from limits variables (clauses_in limits.variables (lines_of a.rest))) (cond (n.positive && h.number.positive && leb n.size limits.variables) (Some n.size) None)
+clauses-feed limits n text a h is =
+    count-feed limits n text (a.end, a.rest) h.end is
+    ∙ ap (λ (o : Option Number). option_and_then (λ variables. formula_from limits variables (clauses_in limits.variables (lines_of a.rest))) (option_and_then (λ m. cond (n.positive && m.positive && leb n.size limits.variables) (Some n.size) None) o)) h.word
+
+pub negative_clauses : (limits : Limits) (n : Number) (text : List ℕ) (a : NumberAhead) → IsAhead text a → a.end ≡ 10 → a.positive ≡ false → formula_behind limits (count_of limits.variables n) (lines_of text) ≡ None
+negative_clauses limits n text a h is minus =
+    let sign : h.number.positive ≡ false = sym h.same_sign ∙ minus in
+    clauses-feed limits n text a h is ∙ rw (sign, and_false n.positive) refl
+
+pub whole_header : (limits : Limits) (n : Number) (text : List ℕ) (a : NumberAhead) → IsAhead text a → a.end ≡ 10 → a.positive ≡ true → n.positive ≡ true → n.size ≤ limits.variables
+    → formula_behind limits (count_of limits.variables n) (lines_of text) ≡ formula_from limits n.size (clauses_in limits.variables (lines_of a.rest))
+whole_header limits n text a h is plus also within =
+    let sign : h.number.positive ≡ true = sym h.same_sign ∙ plus in
+    clauses-feed limits n text a h is ∙ rw (sign, also, le-leb n.size limits.variables within) refl
