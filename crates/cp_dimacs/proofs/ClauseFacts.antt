@@ -26,6 +26,6 @@ within-greatest most literals low h = (low, below_greatest most literals h)
 -- a clause has the variables of its literals
 pub within-clause_of : (variables : ℕ) (literals : List ℕ) → IsWithin variables literals → IsWithin variables (clause_of literals)
 within-clause_of variables literals h = (
-    all_from (λ l. ltb 0 (variable_of l)) (clause_of literals) (λ l m. all_at (λ l. ltb 0 (variable_of l)) literals l h.0 (of_clause_of literals l m)),
-    all_from (λ l. ltb (variable_of l) (variables + 1)) (clause_of literals) (λ l m. all_at (λ l. ltb (variable_of l) (variables + 1)) literals l h.1 (of_clause_of literals l m))
+  all_from (λ l. ltb 0 (variable_of l)) (clause_of literals) (λ l m. all_at (λ l. ltb 0 (variable_of l)) literals l h.0 (of_clause_of literals l m)),
+  all_from (λ l. ltb (variable_of l) (variables + 1)) (clause_of literals) (λ l m. all_at (λ l. ltb (variable_of l) (variables + 1)) literals l h.1 (of_clause_of literals l m)),
 )

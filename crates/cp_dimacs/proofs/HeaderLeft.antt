@@ -55,6 +55,7 @@ no_name limits bytes apart = let left = some_part 10 bytes in rw left.2 (ap (opt
     begins : (line rest : List ℕ) (lines : List (List ℕ)) → lines_of bytes ≡ line ∷ lines → line ≡ codes "p cnf " ++ rest → ⊥
     begins line rest [] e f = apart rest (sym (join_with_byte-slice_split 10 bytes) ∙ ap (join_with_byte 10) e ∙ f)
     begins line rest (next ∷ lines) e f = apart (rest ++ 10 ∷ join_with_byte 10 (next ∷ lines)) (sym (join_with_byte-slice_split 10 bytes) ∙ ap (join_with_byte 10) e ∙ ap (λ (l : List ℕ). l ++ 10 ∷ join_with_byte 10 (next ∷ lines)) f)
+
     named : (line : List ℕ) (lines : List (List ℕ)) → lines_of bytes ≡ line ∷ lines → (p cnf v c : List ℕ) → words_of line ≡ p ∷ cnf ∷ v ∷ c ∷ [] → (s t : Bool) → bytes_eq p (codes "p") ≡ s → bytes_eq cnf (codes "cnf") ≡ t → (o : Option ℕ) → cond (s && t) o None ≡ None
     named line lines e p cnf v c w false t x y o = refl
     named line lines e p cnf v c w true false x y o = refl
@@ -62,6 +63,7 @@ no_name limits bytes apart = let left = some_part 10 bytes in rw left.2 (ap (opt
         let first = (bytes_eq-Decides p (codes "p")).0 x in
         let second = (bytes_eq-Decides cnf (codes "cnf")).0 y in
         absurd (begins line (v ++ 32 ∷ c) lines e (sym (join_with_byte-slice_split 32 line) ∙ ap (join_with_byte 32) w ∙ ap (λ (q : List ℕ). q ++ 32 ∷ (cnf ++ 32 ∷ (v ++ 32 ∷ c))) first ∙ ap (λ (q : List ℕ). codes "p" ++ 32 ∷ (q ++ 32 ∷ (v ++ 32 ∷ c))) second))
+
     words : (line : List ℕ) (lines : List (List ℕ)) → lines_of bytes ≡ line ∷ lines → (ws : List (List ℕ)) → words_of line ≡ ws → header_of limits.variables ws ≡ None
     words line lines e [] w = refl
     words line lines e (p ∷ []) w = refl

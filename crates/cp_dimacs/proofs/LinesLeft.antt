@@ -25,6 +25,7 @@ behind-nothing variables b bytes = go (eqb b 10) (some_part 10 bytes)
     other : (line : List ℕ) (lines : List (List ℕ)) → length line ≢ 0 → clauses_behind variables [] (line ∷ lines) ≡ clauses_in variables (line ∷ lines)
     other line [] there = no_more (λ more clauses. more ∷ clauses) (literals_of variables (words_of line)) ∙ sym (ap (λ t. cond t (Some []) None) (ne_eqb (length line) 0 there))
     other line (next ∷ lines) there = refl
+
     go : (feed : Bool) → ((part : List ℕ) × (parts : List (List ℕ)) × (lines_of bytes ≡ part ∷ parts))
         → clauses_behind variables [] (cond feed ([] ∷ lines_of bytes) (Rattle.std.specs.List.onto_first b (lines_of bytes))) ≡ clauses_in variables (cond feed ([] ∷ lines_of bytes) (Rattle.std.specs.List.onto_first b (lines_of bytes)))
     go true rest = rw rest.2 refl
@@ -51,6 +52,7 @@ behind-feed variables literals text e h is = rw (lines_of-feed text e h is, word
     size true t o = refl
     size false true o = refl
     size false false o = refl
+
     go : (o : Option Number) → option_and_then (λ more. option_map (λ clauses. (literals ++ more) ∷ clauses) (clauses_in variables (lines_of e.1)))
         (option_and_then (λ n. cond (eqb n.size 0) (Some []) (cond (ltb variables n.size) None None)) o) ≡ option_and_then (feed_step variables literals e.1) o
     go None = refl
@@ -74,18 +76,21 @@ behind-space variables literals text e h is =
     more c None o = refl
     more c (Some ls) None = refl
     more c (Some ls) (Some clauses) = ap (λ (l : List ℕ). Some (l ∷ clauses)) (sym (append_assoc literals (c ∷ []) ls))
+
     size : (s t : Bool) (c n : ℕ) (found : Option (List ℕ)) (o : Option (List (List ℕ)))
         → option_and_then (λ more. option_map (λ clauses. (literals ++ more) ∷ clauses) o) (cond s (cond (eqb (suc n) 0) (Some []) None) (cond t None (option_map (λ (ls : List ℕ). c ∷ ls) found)))
         ≡ cond s None (cond t None (option_and_then (λ more. option_map (λ clauses. ((literals ++ c ∷ []) ++ more) ∷ clauses) o) found))
     size true t c n found o = ap (λ b. option_and_then (λ more. option_map (λ clauses. (literals ++ more) ∷ clauses) o) (cond b (Some []) None)) (ne_eqb (suc n) 0 (λ z. omega arith))
     size false true c n found o = refl
     size false false c n found o = more c found o
+
     each : (lines : List (List ℕ)) (word : List ℕ) (words : List (List ℕ)) (o : Option Number)
         → option_and_then (λ more. option_map (λ clauses. (literals ++ more) ∷ clauses) (clauses_in variables lines))
         (option_and_then (λ n. cond (eqb n.size 0) (cond (eqb (length (word ∷ words)) 0) (Some []) None) (cond (ltb variables n.size) None (option_map (λ (ls : List ℕ). code_of n ∷ ls) (literals_of variables (word ∷ words))))) o)
         ≡ option_and_then (λ n. cond (eqb n.size 0) None (cond (ltb variables n.size) None (option_and_then (λ more. option_map (λ clauses. ((literals ++ code_of n ∷ []) ++ more) ∷ clauses) (clauses_in variables lines)) (literals_of variables (word ∷ words))))) o
     each lines word words None = refl
     each lines word words (Some n) = size (eqb n.size 0) (ltb variables n.size) (code_of n) (length words) (literals_of variables (word ∷ words)) (clauses_in variables lines)
+
     go : (line : List ℕ) (lines : List (List ℕ)) (word : List ℕ) (words : List (List ℕ)) → words_of line ≡ word ∷ words
         → option_and_then (λ more. option_map (λ clauses. (literals ++ more) ∷ clauses) (clauses_in variables lines)) (literals_of variables (first_word text ∷ words_of line))
         ≡ option_and_then (λ n. cond (eqb n.size 0) None (cond (ltb variables n.size) None (clauses_behind variables (literals ++ code_of n ∷ []) (line ∷ lines)))) (number_of (first_word text))
@@ -106,6 +111,7 @@ is-ahead text a h = go (end_of text) (number_of (first_word text)) refl refl h
   where
     found : (e : ℕ × List ℕ) (n : Number) → Some a ≡ Some (ahead_of n e) → a ≡ ahead_of n e
     found e n h = cc
+
     go : (e : Option (ℕ × List ℕ)) (n : Option Number) → end_of text ≡ e → number_of (first_word text) ≡ n → Some a ≡ option_and_then (λ e. option_map (λ n. ahead_of n e) n) e → IsAhead text a
     go None n p q h = absurd cc
     go (Some e) None p q h = absurd cc
@@ -206,6 +212,7 @@ behind-longer variables literals (line ∷ lines) clauses h = go (literals_of va
   where
     first : (ls : List ℕ) (others : List (List ℕ)) → Some ((literals ++ ls) ∷ others) ≡ Some clauses → length literals ≤ sum_by length clauses
     first ls others h = let same : (literals ++ ls) ∷ others ≡ clauses = cc in rw (← same) (omega (arith, sum_by-cons length (literals ++ ls) others, length-append literals ls))
+
     go : (found : Option (List ℕ)) (o : Option (List (List ℕ))) → option_and_then (λ more. option_map (λ clauses. (literals ++ more) ∷ clauses) o) found ≡ Some clauses → length literals ≤ sum_by length clauses
     go None o h = absurd cc
     go (Some ls) None h = absurd cc

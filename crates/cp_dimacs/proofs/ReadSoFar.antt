@@ -55,7 +55,7 @@ formula_of-push variables clauses literals =
     ap (λ v. let f : Formula = record { variables = v; next = length clauses + 1 + 1; clauses = numbered_from 1 clauses ++ record { number = length clauses + 1; clause = clause_of literals } ∷ [] } in f) most
     ∙ ap (λ n. let f : Formula = record { variables = max variables (greatest_in (clauses ++ literals ∷ [])); next = n; clauses = numbered_from 1 clauses ++ record { number = length clauses + 1; clause = clause_of literals } ∷ [] } in f) next
     ∙ ap (λ (cs : List Named). let f : Formula = record { variables = max variables (greatest_in (clauses ++ literals ∷ [])); next = length (clauses ++ literals ∷ []) + 1; clauses = cs } in f)
-        (ap (λ k. numbered_from 1 clauses ++ (let c : Named = record { number = k; clause = clause_of literals } in c) ∷ []) number ∙ sym (numbered-push 1 clauses literals))
+    (ap (λ k. numbered_from 1 clauses ++ (let c : Named = record { number = k; clause = clause_of literals } in c) ∷ []) number ∙ sym (numbered-push 1 clauses literals))
 
 onto : (written : List (List ℕ)) (literals : List ℕ) (o : Option (List (List ℕ)))
     → option_map (λ (more : List (List ℕ)). (written ++ literals ∷ []) ++ more) o ≡ option_map (λ (more : List (List ℕ)). written ++ more) (option_map (λ (cs : List (List ℕ)). literals ∷ cs) o)

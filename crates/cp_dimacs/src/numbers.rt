@@ -28,11 +28,7 @@ pub(crate) fn read_number(text: &[u8]) -> Option<Number<'_>>
 {
     if let [b'-', digits @ ..] = text {
         let number = read_digits(digits, false)?;
-        return if number.size == 0 {
-            None
-        } else {
-            Some(number)
-        };
+        return if number.size == 0 { None } else { Some(number) };
     }
     read_digits(text, true)
 }
