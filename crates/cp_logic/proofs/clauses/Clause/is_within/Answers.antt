@@ -1,4 +1,4 @@
-use Rattle.std.proofs.Common.{◌≡◌, ◌∙◌, ap, sym, subst, length, ◌-◌}
+use Rattle.std.proofs.Common.{◌∙◌, ap, length, ◌-◌}
 use Rattle.std.specs.Prelude.{slice_get}
 use Rattle.cp_logic.proofs.Lasts.{within-none, within-last}
 use Rattle.cp_logic.proofs.clauses.Clause.is_within.Goals as goal
