@@ -75,6 +75,6 @@ swept-simplified f rules posts left stopped v s = record {
   sweep = s.swept;
   models = λ values n m. journal-completed f rules posts values v s.legal (omega (arith, n)) m;
   satisfiable = journal-satisfiable f rules posts v s.legal;
-  stop = s.stop_is;
-  fixpoint = λ none. stop-fixpoint f rules posts (sym s.stop_is ∙ none);
+  stop = s.stop;
+  fixpoint = λ none. stop-fixpoint f rules posts (sym s.stop ∙ none);
 }

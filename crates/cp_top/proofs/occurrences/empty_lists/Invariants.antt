@@ -1,0 +1,6 @@
+use Rattle.std.proofs.Common.{◌≡◌, replicate, []}
+use Rattle.cp_top.specs.Building.{items_of}
+use Rattle.cp_top.proofs.occurrences.empty_lists.Given as goal
+
+abbrev pub invariant-loop-var : goal.invariant-loop-var
+invariant-loop-var l = items_of l.lists.items ≡ replicate l._var []
