@@ -13,8 +13,16 @@ use Rattle.cp_logic.specs.Formulas.{Formula, IsFormula, numbers_of, occurrences}
 use Rattle.cp_logic.proofs.Members.{any_member, any_from, in_here, in_later, of_filter}
 use Rattle.cp_top.specs.Index.{list_of, standing_under, IsIndexOf}
 use Rattle.cp_top.specs.Building.{if_has, IsNoted}
-use Rattle.cp_top.proofs.Adjacent.{ascending-places}
+use Rattle.std.proofs.lemmas.List.Elements.{Contains-get_or}
+use Rattle.cp_logic.proofs.Ascending.{below_others}
 use Rattle.cp_top.proofs.IndexFacts.{under-numbers}
+
+-- a literal is below those at later places
+ascending-places : (xs : List ℕ) (i j : ℕ) → IsAscending xs → i < j → j < length xs → get_or xs i 0 < get_or xs j 0
+ascending-places [] i j a l h = absurd (omega arith)
+ascending-places (x ∷ xs) i zero a l h = absurd (omega arith)
+ascending-places (x ∷ xs) zero (suc j) a l h = below_others x xs (get_or xs j 0) a (Contains-get_or xs j 0 (omega arith))
+ascending-places (x ∷ xs) (suc i) (suc j) a l h = ascending-places xs i j a.1 (omega arith) (omega arith)
 
 -- ---- one clause
 

@@ -7,13 +7,12 @@
 ghost use Rattle.std.specs.Prelude.{◌≡◌, IfOk};
 ghost use Rattle.std.specs.Option.{option_copied, option_map};
 ghost use Rattle.std.specs.List.{find};
-ghost use Rattle.cp_logic.specs.Clauses.{IsAscending, is_subset};
 ghost use Rattle.cp_logic.specs.Legality.{subsumptions};
 ghost use Rattle.cp_logic.specs.Views.{entry_of};
 ghost use Rattle.cp_top.specs.Cells.{IsCell, cell_of, fits_at, named_of, subsumes};
 
 use crate::rows::{Row, copy_of};
-use cp_logic::{Entry, Lit};
+use cp_logic::Entry;
 use std::alloc::{AllocError, Global};
 
 /// The subsumed clause of the least numbers, first of the clause that subsumes and then of the one that goes.
@@ -48,31 +47,5 @@ fn first_subsumed<'a, 'b>(by: &Row, rows: &'b [Row<'a>]) -> Option<&'b Row<'a>>
 fn is_subsumed(by: &Row, gone: &Row) -> bool
     ensures { result ≡ subsumes (named_of by.now) (named_of gone.now) }
 {
-    by.number != gone.number && includes(gone.clause.lits(), by.clause.lits())
-}
-
-// Whether each literal of the small list is in the large one.
-fn includes(large: &[Lit], small: &[Lit]) -> bool
-    requires large { IsAscending large.now }
-    requires small { IsAscending small.now }
-    ensures { result ≡ is_subset small.now large.now }
-{
-    if small.len() > large.len() {
-        return false;
-    }
-    let mut at = 0;
-    for lit in large {
-        if at == small.len() {
-            return true;
-        }
-        let wanted = small[at].code();
-        let code = lit.code();
-        if wanted < code {
-            return false;
-        }
-        if code == wanted {
-            at += 1;
-        }
-    }
-    at == small.len()
+    by.number != gone.number && by.clause.subset_of(gone.clause)
 }

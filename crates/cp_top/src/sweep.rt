@@ -46,7 +46,7 @@ pub fn sweep(alloc: Global, formula: Formula, rules: &Rules) -> Result<Swept, Al
     requires removes { OnlyRemoves rules.now.choice }
     ensures { IfOk result (λ s. IsSwept formula.formula rules.now s.journal.items s.formula.formula s.stopped) }
 {
-    if has_empty_clause(&formula) {
+    if formula.has_empty_clause() {
         return Ok(Swept {
             formula,
             journal: Journal::new(alloc),
@@ -69,17 +69,6 @@ pub fn sweep(alloc: Global, formula: Formula, rules: &Rules) -> Result<Swept, Al
         journal: state.journal,
         stopped: None,
     })
-}
-
-fn has_empty_clause(formula: &Formula) -> bool
-    ensures { result ≡ has_empty formula.now.formula.clauses }
-{
-    for (_number, clause) in formula.iter() {
-        if clause.lits().is_empty() {
-            return true;
-        }
-    }
-    false
 }
 
 // Searches at the next variable, and posts and applies what is found there.

@@ -11,11 +11,11 @@ use Rattle.cp_top.proofs.Finding.{find-at, find-more}
 use Rattle.cp_top.proofs.CellFinds.{taut-rows}
 use Rattle.cp_top.proofs.tautology.find_tautology.Goals as goal
 
-pub returns-then-has_both_signs : goal.returns-then-has_both_signs
-returns-then-has_both_signs c =
+pub returns-then-is_tautology : goal.returns-then-is_tautology
+returns-then-is_tautology c =
     let test : Row → Bool = λ r. is_tautology r.clause.now in
     let rows = c.args.rows.now in let r = c.row-item.result in
-    let passes = ap test (sym c.row-item.is) ∙ sym (c.if-has_both_signs.ensures ∙ ap is_tautology c.lits.ensures.value) in
+    let passes = ap test (sym c.row-item.is) ∙ sym (c.if-is_tautology.ensures) in
     ap (λ (n : Named). Some (Taut n)) (c.in_ok-copy_of.ensures ∙ ap named_of c.row-item.is)
     ∙ sym (taut-rows c.args.var rows c.requires
     ∙ ap (option_map (λ (r : Row). Taut (named_of r))) (find-at test rows c.loop-row.row-index r c.loop-row-test.true c.loop-row.invariant passes))
@@ -23,7 +23,7 @@ returns-then-has_both_signs c =
 pub loop-row-preserved : goal.loop-row-preserved
 loop-row-preserved c =
     let test : Row → Bool = λ r. is_tautology r.clause.now in
-    let fails = ap test (sym c.row-item.is) ∙ sym (c.if-has_both_signs.ensures ∙ ap is_tautology c.lits.ensures.value) in
+    let fails = ap test (sym c.row-item.is) ∙ sym (c.if-is_tautology.ensures) in
     find-more test c.args.rows.now c.loop-row.row-index c.row-item.result c.loop-row-test.true c.loop-row.invariant fails
 
 pub returns : goal.returns
