@@ -6,7 +6,7 @@ use Rattle.std.proofs.lemmas.Option.{slice_get-get_or}
 use Rattle.cp_io.specs.declared.role.Role.{Role}
 use Rattle.cp_io.specs.declared.slots.Slot.{Slot}
 use Rattle.cp_io.specs.Roles.{role_index}
-use Rattle.cp_io.specs.Port.{Port, Ports, AtRole}
+use Rattle.cp_io.specs.Port.{Port, AtRole}
 use Rattle.cp_io.proofs.RoleCases.{role_index-apart, role_cases}
 use Rattle.cp_io.specs.Slots.{slot_port, fresh_port, next_count}
 

@@ -1,14 +1,15 @@
 -- What a desk in memory is made from: the bytes before its roles, and the calls that are to fail.
-use Rattle.std.specs.Prelude.{◌==◌, ◌&&◌, ℕ, List, [], ◌∷◌, Bool, cond}
-use Rattle.std.specs.List.{list_any, IsDistinct}
+use Rattle.std.specs.Prelude.{◌==◌, ◌&&◌, ℕ, List, [], ◌∷◌, Bool, true, cond, not}
+use Rattle.std.specs.List.{list_any}
 use Rattle.cp_io.specs.declared.role.Role.{Role}
 use Rattle.cp_io.specs.declared.setup.Input.{Input}
 use Rattle.cp_io.specs.declared.setup.FailAt.{FailAt}
 use Rattle.cp_io.specs.Roles.{same_role}
 
 -- each role is named at most once
-abbrev pub NamedOnce : List Input → Type 0
-NamedOnce inputs = IsDistinct (λ a b. same_role a.role b.role) inputs
+abbrev pub named_once : List Input → Bool
+named_once [] = true
+named_once (i ∷ rest) = not (list_any (λ j. same_role i.role j.role) rest) && named_once rest
 
 -- the bytes that these inputs put before a role: none where they don't name it
 abbrev pub input_of : List Input → Role → List ℕ
