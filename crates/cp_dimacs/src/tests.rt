@@ -1,19 +1,27 @@
 //! Texts that are read, and printed again over a desk in memory.
 
+ghost use Rattle.std.specs.Prelude.{IfOk};
+ghost use Rattle.cp_io.specs.Port.{NothingBound};
+ghost use Rattle.cp_io.specs.Memory.{memory_port};
+
 use crate::{parse_plain, print_cnf};
-use cp_io::{Desk, Inputs, Limits, MemDesk, Role, Way};
+use cp_io::{Desk, Failed, Inputs, Limits, MemDesk, Role, Way};
 use cp_logic::Formula;
-use std::alloc::Global;
+use std::alloc::{AllocError, Global};
 use std::test::Fail;
 
-// The text of the formula.
-fn printed(alloc: Global, formula: &Formula) -> Result<Vec<u8>, Fail> {
-    let mut desk = MemDesk::honest(alloc, Inputs::new(alloc))?;
-    desk.bind(Role::Reduced, Way::Out, "std")
-        .ok()
-        .ok_or("bind")?;
-    print_cnf(&mut desk, formula).ok().ok_or("print")?;
-    Ok(Vec::from_slice(alloc, desk.written(Role::Reduced))?)
+// A desk of which no role is bound.
+fn desk_of(alloc: Global) -> Result<MemDesk, AllocError>
+    ensures { IfOk result (λ desk. NothingBound (memory_port desk)) }
+{
+    MemDesk::honest(alloc, Inputs::new(alloc))
+}
+
+fn print_of<D: Desk>(desk: &mut D, formula: &Formula) -> Result<(), Failed>
+    requires { NothingBound (D.port desk.old) }
+{
+    desk.bind(Role::Reduced, Way::Out, "out")?;
+    print_cnf(desk, formula)
 }
 
 #[test]
@@ -38,8 +46,9 @@ fn plain_texts_are_read_and_printed(rt: HostRuntime) -> Result<(), Fail> {
     let limits = Limits::standard();
     for (text, wanted) in rows {
         let formula = parse_plain(rt.alloc(), text.as_bytes(), &limits)?.ok_or("not plain")?;
-        let text = printed(rt.alloc(), &formula)?;
-        assert_eq!(rt; text.as_slice(), wanted.as_bytes());
+        let mut desk = desk_of(rt.alloc())?;
+        print_of(&mut desk, &formula).ok().ok_or("not printed")?;
+        assert_eq!(rt; desk.written(Role::Reduced), wanted.as_bytes());
     }
     Ok(())
 }
