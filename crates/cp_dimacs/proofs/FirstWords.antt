@@ -1,11 +1,10 @@
 -- The first word of a text, and the lines and words of the text.
-use Rattle.std.proofs.Common.{◌≡◌, ◌≢◌, ◌⊎◌, ℕ, ◌<◌, Bool, true, false, eqb, cond, List, [], ◌∷◌, ◌++◌, length, Option, Some, None, refl, sym, ◌∙◌, ap, arith, inl, inr}
+use Rattle.std.proofs.Common.{◌≡◌, ◌⊎◌, ℕ, ◌<◌, Bool, true, false, eqb, cond, List, [], ◌∷◌, ◌++◌, length, Some, None, refl, sym, ◌∙◌, ap, arith, inl, inr}
 use Rattle.std.specs.Prelude.{◌||◌}
 use Rattle.std.specs.List.{slice_split, onto_first}
-use Rattle.std.proofs.lemmas.Bool.Decides.{nat_tests}
 use Rattle.std.proofs.lemmas.Bool.{eqb-true}
 use Rattle.cp_dimacs.specs.Plain.{lines_of, words_of}
-use Rattle.cp_dimacs.specs.Ahead.{is_end, first_word, end_of}
+use Rattle.cp_dimacs.specs.Ahead.{first_word, end_of}
 
 not_both : (b : ℕ) → eqb b 32 ≡ true → eqb b 10 ≡ true → ⊥
 not_both b p q = let x = eqb-true b 32 p in let y = eqb-true b 10 q in omega arith

@@ -1,17 +1,16 @@
 -- What is left of a header line and of the lines behind it, word by word.
-use Rattle.std.proofs.Common.{◌≡◌, ◌≢◌, ◌⊎◌, ℕ, suc, ◌+◌, ◌^◌, ◌<◌, ◌≤◌, Bool, true, false, eqb, ltb, leb, cond, List, [], ◌∷◌, ◌++◌, length, Option, Some, None, refl, sym, ◌∙◌, ap, subst, append_assoc, arith, inl, inr}
+use Rattle.std.proofs.Common.{◌≡◌, ◌≢◌, ℕ, ◌<◌, ◌≤◌, Bool, true, false, leb, cond, List, [], ◌∷◌, ◌++◌, Option, Some, None, refl, sym, ◌∙◌, ap, arith, inl, inr}
 use Rattle.std.specs.Prelude.{◌&&◌, codes}
 use Rattle.std.specs.Option.{option_map, option_and_then}
 use Rattle.std.specs.List.{join_with_byte}
 use Rattle.std.specs.Str.{bytes_eq}
-use Rattle.std.proofs.lemmas.Bool.Decides.{nat_tests}
 use Rattle.std.proofs.lemmas.Bool.{lt-leb, le-leb}
 use Rattle.std.proofs.lemmas.List.Splits.{join_with_byte-slice_split}
 use Rattle.std.proofs.lemmas.Slice.Eq.{bytes_eq-Decides}
 use Rattle.cp_logic.specs.Formulas.{Formula}
 use Rattle.cp_io.specs.declared.limits.Limits.{Limits}
 use Rattle.cp_dimacs.specs.Plain.{Number, number_of, clauses_in, header_of, formula_in, lines_of, words_of}
-use Rattle.cp_dimacs.specs.Ahead.{NumberAhead, first_word, end_of, capped, ahead_of, number_ahead}
+use Rattle.cp_dimacs.specs.Ahead.{NumberAhead, first_word, end_of, ahead_of, number_ahead}
 use Rattle.cp_dimacs.specs.Reads.{formula_from}
 use Rattle.cp_dimacs.proofs.FirstWords.{lines_of-no_end, lines_of-feed, lines_of-space, words_of-word, words_of-space, end_of-kinds, some_part}
 use Rattle.cp_dimacs.proofs.LinesLeft.{IsAhead}

@@ -1,7 +1,7 @@
 -- The clauses that were read so far, and the formula of them.
-use Rattle.std.proofs.Common.{◌≡◌, ◌≢◌, ◌⊎◌, ℕ, suc, ◌+◌, ◌-◌, ◌<◌, ◌≤◌, max, Bool, true, false, eqb, leb, cond, List, [], ◌∷◌, ◌++◌, length, sum_by, Option, Some, None, refl, sym, ◌∙◌, ap, subst, append_assoc, arith, inl, inr}
+use Rattle.std.proofs.Common.{◌≡◌, ◌⊎◌, ℕ, ◌+◌, ◌-◌, ◌<◌, ◌≤◌, max, Bool, true, false, leb, cond, List, [], ◌∷◌, ◌++◌, length, sum_by, Option, Some, None, refl, sym, ◌∙◌, ap, append_assoc, arith, inl, inr}
 use Rattle.std.specs.Prelude.{◌&&◌}
-use Rattle.std.specs.Option.{option_map, option_and_then, ForSome}
+use Rattle.std.specs.Option.{option_map, ForSome}
 use Rattle.std.proofs.lemmas.Bool.{lt-leb, le-leb}
 use Rattle.std.proofs.lemmas.List.{length-append, append-nil}
 use Rattle.std.proofs.lemmas.List.Sums.{sum_by-append, sum_by_push}
@@ -9,9 +9,8 @@ use Rattle.cp_logic.specs.declared.named.Named.{Named}
 use Rattle.cp_logic.specs.Clauses.{clause_of}
 use Rattle.cp_logic.specs.Formulas.{Formula}
 use Rattle.cp_io.specs.declared.limits.Limits.{Limits}
-use Rattle.cp_dimacs.specs.Plain.{lines_of, words_of, literals_of, clauses_in, greatest_of, greatest_in, numbered_from, formula_of, are_within}
+use Rattle.cp_dimacs.specs.Plain.{lines_of, clauses_in, greatest_of, greatest_in, numbered_from, formula_of}
 use Rattle.cp_dimacs.specs.Reads.{IsClauseAhead, HasNoClauses, formula_from, with_clause}
-use Rattle.cp_dimacs.proofs.FirstWords.{some_part}
 
 -- a front of the clauses of a text was read into the formula, within the limits, and the rest is left
 pub record IsReadSoFar (limits : Limits) (variables : ℕ) (text : List ℕ) (formula : Formula) (left : ℕ) (rest : List ℕ) : Type 0 where

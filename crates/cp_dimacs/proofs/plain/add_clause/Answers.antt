@@ -1,5 +1,5 @@
-use Rattle.std.proofs.Common.{ap, sym, ◌∙◌, subst, List, ℕ, arith}
-use Rattle.cp_logic.specs.Formulas.{Formula, IsWithin}
+use Rattle.std.proofs.Common.{ap}
+use Rattle.cp_logic.specs.Formulas.{Formula}
 use Rattle.cp_dimacs.proofs.ClauseFacts.{within-clause_of}
 use Rattle.cp_dimacs.proofs.plain.add_clause.Goals as goal
 

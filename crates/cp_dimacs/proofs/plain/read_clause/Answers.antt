@@ -1,11 +1,8 @@
-use Rattle.std.proofs.Common.{[], ◌∷◌, ◌++◌, length, sym, ap, ◌∙◌, subst, arith, List, ℕ}
-use Rattle.std.specs.Option.{ForSome}
-use Rattle.std.specs.List.{sum_by}
-use Rattle.std.specs.Prelude.{◌<◌, ◌≡◌}
+use Rattle.std.proofs.Common.{[], ◌∷◌, ◌++◌, length, sym, ap, ◌∙◌, arith, List, ℕ}
 use Rattle.std.proofs.lemmas.List.{length-append}
-use Rattle.cp_dimacs.specs.Plain.{clauses_in, lines_of, code_of}
+use Rattle.cp_dimacs.specs.Plain.{lines_of}
 use Rattle.cp_dimacs.specs.Numbers.{seen}
-use Rattle.cp_dimacs.proofs.LinesLeft.{clauses_behind, IsAhead, is-ahead, none_found, too_many, behind-start, behind-no_number, behind-zero, behind-early_zero, behind-no_zero, behind-too_great, behind-within, rest-shorter}
+use Rattle.cp_dimacs.proofs.LinesLeft.{clauses_behind, is-ahead, none_found, too_many, behind-start, behind-no_number, behind-zero, behind-early_zero, behind-no_zero, behind-too_great, behind-within, rest-shorter}
 use Rattle.cp_dimacs.proofs.plain.read_clause.Goals as goal
 
 pub loop-number-init : goal.loop-number-init

@@ -1,4 +1,4 @@
-use Rattle.std.proofs.Common.{◌≡◌, ◌-◌, length, List, ℕ, ◌∙◌, sym, ap, subst, arith}
+use Rattle.std.proofs.Common.{◌≡◌, ◌-◌, length, ◌∙◌, ap, subst, arith}
 use Rattle.cp_dimacs.specs.Reads.{with_clause}
 use Rattle.cp_dimacs.proofs.ReadSoFar.{IsReadSoFar, read-more, too_many_clauses}
 use Rattle.cp_dimacs.proofs.plain.read_clauses.Goals as goal

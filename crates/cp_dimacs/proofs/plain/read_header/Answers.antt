@@ -1,5 +1,5 @@
-use Rattle.std.proofs.Common.{◌≡◌, ◌++◌, List, ℕ, sym, ◌∙◌, ap, arith}
-use Rattle.cp_dimacs.specs.Plain.{formula_in, clauses_in, lines_of}
+use Rattle.std.proofs.Common.{◌≡◌, sym, ◌∙◌, ap, arith}
+use Rattle.cp_dimacs.specs.Plain.{clauses_in, lines_of}
 use Rattle.cp_dimacs.specs.Reads.{formula_from}
 use Rattle.cp_dimacs.specs.Numbers.{seen}
 use Rattle.cp_dimacs.proofs.LinesLeft.{is-ahead}
