@@ -1,11 +1,12 @@
 //! Which clauses have a variable.
 //!
 //! An occurrence list, as every solver keeps it: for each variable the numbers of the clauses that have it, ascending. The lists
-//! are made in one pass and then only read. A clause that is removed stays in its lists: what a reader finds under a number in
+//! are made in one pass, after one that counts, so that each gets its room at once and they lie in the order of the variables, in which
+//! they are read. Then they only are read. A clause that is removed stays in its lists: what a reader finds under a number in
 //! the formula decides, so a removal costs nothing here.
 ghost use Rattle.std.specs.Prelude.{◌≡◌, ◌≤◌, IfOk, OnOk, length, replicate, []};
 ghost use Rattle.cp_logic.specs.Clauses.{IsAscending};
-ghost use Rattle.cp_logic.specs.Formulas.{IsWithin};
+ghost use Rattle.cp_logic.specs.Formulas.{IsFormula, IsWithin};
 ghost use Rattle.cp_top.specs.Building.{IsNoted, items_of};
 ghost use Rattle.cp_top.specs.Index.{IsIndexOf, list_of};
 
@@ -32,7 +33,9 @@ impl Occurrences {
     pub fn of(alloc: Global, formula: &Formula) -> Result<Occurrences, AllocError>
         ensures { IfOk result (λ o. IsIndexOf formula.now.formula o) }
     {
-        let mut lists = empty_lists(alloc, formula.vars())?;
+        let sizes = sizes_of(alloc, formula)?;
+        let mut lists = empty_lists(alloc, sizes.as_slice())?;
+        drop(sizes);
         for (number, clause) in formula.iter() {
             note(&mut lists, number, clause.lits())?;
         }
@@ -49,13 +52,36 @@ impl Occurrences {
     }
 }
 
-// An empty list for each variable.
-fn empty_lists(alloc: Global, vars: u32) -> Result<Vec<Vec<u64>>, AllocError>
-    ensures { IfOk result (λ lists. items_of lists.items ≡ replicate vars []) }
+// For how many clauses the list of each variable needs room. It is a hint: a variable in both signs counts twice.
+fn sizes_of(alloc: Global, formula: &Formula) -> Result<Vec<u32>, AllocError>
+    ensures each { IfOk result (λ sizes. length sizes.items ≡ formula.now.formula.variables) }
+    ensures valid { IsFormula formula.now.formula }
 {
-    let mut lists = Vec::with_capacity(alloc, vars as usize)?;
-    for _var in 0..vars {
-        lists.push(Vec::new(alloc))?;
+    let mut sizes = vec![in alloc; 0; formula.vars() as usize]?;
+    for (_number, clause) in formula.iter() {
+        count(&mut sizes, clause.lits());
+    }
+    Ok(sizes)
+}
+
+// Adds one for each literal of the clause.
+fn count(sizes: &mut Vec<u32>, lits: &[Lit])
+    requires { IsWithin (length sizes.old.items) lits.now }
+    ensures { length sizes.new.items ≡ length sizes.old.items }
+{
+    for lit in lits {
+        let at = lit.var() as usize - 1;
+        sizes[at] = sizes[at].saturating_add(1);
+    }
+}
+
+// An empty list for each variable, with room for so many numbers.
+fn empty_lists(alloc: Global, sizes: &[u32]) -> Result<Vec<Vec<u64>>, AllocError>
+    ensures { IfOk result (λ lists. items_of lists.items ≡ replicate (length sizes.now) []) }
+{
+    let mut lists = Vec::with_capacity(alloc, sizes.len())?;
+    for size in sizes {
+        lists.push(Vec::with_capacity(alloc, *size as usize)?)?;
     }
     Ok(lists)
 }

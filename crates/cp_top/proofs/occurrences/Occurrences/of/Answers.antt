@@ -14,7 +14,7 @@ note-requires-clause-within c =
     let f = c.args.formula.now.formula in
     let clause : Named = record { number = c.in-Some.number; clause = c.in-Some.clause.now } in
     let left = subst (λ (rest : List Named). Contains rest clause) (sym c.in-Some.ensures.steps) (in_here clause clause c.next.new.self refl) in
-    let within = within_at f clause c.vars.ensures.valid (c.loop-number.invariant.among clause left) in
+    let within = within_at f clause c.sizes_of.ensures.valid (c.loop-number.invariant.among clause left) in
     let same : length c.loop-number.lists.items ≡ f.variables = sym (length-map c.loop-number.lists.items (λ list. list.items)) ∙ c.loop-number.invariant.same_length in
     subst (λ n. IsWithin n c.lits.result.now) (sym same) (subst (IsWithin f.variables) (sym c.lits.ensures.value) within)
 
@@ -30,5 +30,5 @@ loop-number-preserved c =
 pub returns : goal.returns
 returns c =
     let f = c.args.formula.now.formula in
-    building-end f (items_of c.loop-number.lists.items) c.vars.ensures.valid
+    building-end f (items_of c.loop-number.lists.items) c.sizes_of.ensures.valid
     (subst (λ (rest : List Named). IsBuilding f.clauses rest f.variables (items_of c.loop-number.lists.items)) c.in-None.ensures.steps.0 c.loop-number.invariant)
