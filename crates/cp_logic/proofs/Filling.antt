@@ -223,6 +223,7 @@ kept-filled variables next count n slots new c k h l free a w =
       counted = ap (λ m. m + 1) k.counted ∙ sym (ap length h.stands ∙ length-with_clause (record { number = n; clause = c }) (standing slots));
       valid = subst (λ (cs : List Named). IsFormula (record { variables = variables; next = next; clauses = cs })) (sym h.stands)
           (IsFormula-placed f (record { number = n; clause = c }) k.valid l free a w);
+      most = k.most;
     }
   where
     length-with_clause : (x : Named) (cs : List Named) → length (with_clause x cs) ≡ length cs + 1
@@ -242,12 +243,13 @@ kept-filled variables next count n slots new c k h l free a w =
       | inr m ↦ old (get_or new i d).number m
     ]
 
-pub kept-raised : (variables more next count : ℕ) (slots : List Slot) → IsKept variables next count slots → variables ≤ more → IsKept more next count slots
-kept-raised variables more next count slots k l = record {
+pub kept-raised : (variables more next count : ℕ) (slots : List Slot) → IsKept variables next count slots → variables ≤ more → more ≤ 2000000 → IsKept more next count slots
+kept-raised variables more next count slots k l h = record {
   rising = k.rising;
   below = k.below;
   counted = k.counted;
   valid = IsFormula-raised (record { variables = variables; next = next; clauses = standing slots }) more k.valid l;
+  most = h;
 }
 
 -- there are no more clauses than numbers below the next one
