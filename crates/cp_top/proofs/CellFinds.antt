@@ -1,19 +1,18 @@
 -- Loops over the rows of a variable give the first entry of their kind.
-use Rattle.std.proofs.Common.{◌≡◌, ℕ, zero, suc, ◌+◌, ◌<◌, Bool, true, false, cond, not, ◌&&◌, List, [], ◌∷◌, ◌++◌, length, take, get_or, map, Option, Some, None, refl, sym, ap, ◌∙◌, arith}
+use Rattle.std.proofs.Common.{◌≡◌, ℕ, zero, suc, ◌+◌, ◌<◌, Bool, true, false, cond, List, [], ◌∷◌, ◌++◌, length, take, get_or, map, Option, Some, None, refl, sym, ap, ◌∙◌, arith}
 use Rattle.std.specs.Prelude.{◌==◌}
 use Rattle.std.specs.Option.{option_map, option_or}
-use Rattle.std.specs.List.{Contains, find, flat_map, list_all}
+use Rattle.std.specs.List.{Contains, find, flat_map}
 use Rattle.std.proofs.lemmas.Bool.{and_parts, and_from, not-true, not_from_false, eqb-false, ne_eqb}
 use Rattle.std.proofs.lemmas.List.{take_more, append-nil}
 use Rattle.std.proofs.lemmas.List.Folds.{find-append, flat_map-map}
-use Rattle.std.proofs.lemmas.List.Elements.{Contains-get_or}
 use Rattle.std.proofs.lemmas.Grind.{flat_map-append}
 use Rattle.cp_logic.specs.declared.named.Named.{Named}
-use Rattle.cp_logic.specs.Clauses.{is_subset, is_tautology, has_variable}
-use Rattle.cp_logic.specs.Entries.{Entry, Taut, Subsume, is_at}
-use Rattle.cp_logic.specs.Legality.{fits, tauts, subsumptions}
+use Rattle.cp_logic.specs.Clauses.{is_tautology, has_variable}
+use Rattle.cp_logic.specs.Entries.{Entry, Taut, Subsume}
+use Rattle.cp_logic.specs.Legality.{tauts, subsumptions}
 use Rattle.cp_logic.proofs.Members.{in_here, in_later, in_map, all_at}
-use Rattle.cp_logic.proofs.Parts.{taut-fits, subsume-fits, IsSubsume}
+use Rattle.cp_logic.proofs.Parts.{taut-fits, subsume-fits}
 use Rattle.cp_logic.proofs.Locals.{same_bool, taut-from, subsume-from}
 use Rattle.cp_top.specs.declared.rows.Row.{Row}
 use Rattle.cp_top.specs.Cells.{named_of, cell_of, IsCell, fits_at, subsumes}

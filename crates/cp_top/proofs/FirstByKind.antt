@@ -1,6 +1,5 @@
 -- The first entry at a variable, kind by kind, over the clauses of the variable.
-use Rattle.std.proofs.Common.{◌≡◌, ℕ, Bool, true, false, cond, ◌&&◌, List, [], ◌∷◌, ◌++◌, map, Option, Some, None, refl, sym, ap, ◌∙◌, subst, inl, inr}
-use Rattle.std.specs.Prelude.{is_some}
+use Rattle.std.proofs.Common.{◌≡◌, ℕ, Bool, true, false, cond, ◌&&◌, List, [], ◌∷◌, map, Option, Some, None, refl, sym, ap, ◌∙◌, subst, inl, inr}
 use Rattle.std.specs.Option.{option_or}
 use Rattle.std.specs.List.{Contains, find, flat_map}
 use Rattle.std.proofs.lemmas.Bool.{and_parts}
@@ -11,14 +10,13 @@ use Rattle.cp_logic.specs.declared.settings.Choice.{Choice}
 use Rattle.cp_logic.specs.Clauses.{has_variable}
 use Rattle.cp_logic.specs.Formulas.{Formula, occurrences, has_empty}
 use Rattle.cp_logic.specs.Entries.{Entry, Taut, Subsume, Strengthen, Block, Eliminate, Look, is_at}
-use Rattle.cp_logic.specs.Legality.{is_chosen, fits, applies, tauts, subsumptions, strengthening, strengthenings, blocks, elimination, candidates, first_in, is_legal_in, is_legal, first}
+use Rattle.cp_logic.specs.Legality.{is_chosen, fits, applies, tauts, subsumptions, strengthening, strengthenings, blocks, elimination, candidates, first_in, first}
 use Rattle.cp_logic.proofs.Members.{in_here, in_later, in_cases, none_in, of_map, of_flat_map, of_filter, all_from}
 use Rattle.cp_logic.proofs.Locals.{first_in-local}
 use Rattle.cp_logic.proofs.Complete.{nothing-missed}
 use Rattle.cp_top.specs.Cells.{IsCell, fits_at}
 use Rattle.cp_top.specs.Cursor.{removes_one}
 use Rattle.cp_top.specs.Removals.{OnlyRemoves}
-use Rattle.cp_top.proofs.Finding.{found-passes}
 
 -- the first of one kind, where its technique is chosen
 abbrev pub first_of_kind : Bool → (Entry → Bool) → List Entry → Option Entry

@@ -1,13 +1,13 @@
 -- An index of a formula: that the numbers of the clauses with a variable name them, and that a removal keeps this.
-use Rattle.std.proofs.Common.{◌≡◌, ℕ, zero, suc, ◌+◌, ◌-◌, ◌<◌, ◌≤◌, Bool, true, false, cond, not, ◌&&◌, List, [], ◌∷◌, ◌++◌, length, get_or, map, Option, Some, None, refl, sym, ap, ◌∙◌, subst, inl, inr, arith}
+use Rattle.std.proofs.Common.{◌≡◌, ℕ, Bool, true, false, cond, not, List, [], ◌∷◌, Option, Some, None, refl, sym, ap, ◌∙◌, inl, inr}
 use Rattle.std.specs.Prelude.{◌==◌}
-use Rattle.std.specs.List.{Contains, filter, filter_map, find, cons_option}
-use Rattle.std.proofs.lemmas.Bool.{cases_Bool, false≢true, eqb-true, eq-eqb, not_from_true, not_from_false, ne_eqb, eqb-false}
+use Rattle.std.specs.List.{Contains, find, cons_option}
+use Rattle.std.proofs.lemmas.Bool.{cases_Bool, false≢true, eqb-true, eq-eqb}
 use Rattle.cp_logic.specs.declared.named.Named.{Named}
 use Rattle.cp_logic.specs.Clauses.{IsAscending}
-use Rattle.cp_logic.specs.Formulas.{Formula, IsFormula, numbers_of, find_number, without_number, occurrences}
+use Rattle.cp_logic.specs.Formulas.{Formula, numbers_of, find_number, without_number}
 use Rattle.cp_logic.specs.Rules.{removed}
-use Rattle.cp_logic.proofs.Members.{in_here, in_later, of_filter}
+use Rattle.cp_logic.proofs.Members.{in_here, in_later}
 use Rattle.cp_logic.proofs.Ascending.{same_number}
 use Rattle.cp_logic.proofs.Changes.{filter-comm}
 use Rattle.cp_logic.specs.Clauses.{has_variable}

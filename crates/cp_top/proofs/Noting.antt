@@ -1,7 +1,7 @@
 -- How an index is made: a number is noted in the lists of a clause's variables, and clause by clause the lists fill.
-use Rattle.std.proofs.Common.{◌≡◌, ℕ, zero, suc, ◌+◌, ◌-◌, ◌/◌, ◌<◌, ◌≤◌, Bool, true, false, cond, ◌||◌, List, [], ◌∷◌, ◌++◌, length, take, get_or, set, map, refl, sym, ap, ◌∙◌, subst, inl, inr, arith, add-one, append_assoc}
-use Rattle.std.specs.Prelude.{◌⊎◌, ◌==◌, replicate}
-use Rattle.std.specs.List.{Contains, list_any}
+use Rattle.std.proofs.Common.{◌≡◌, ℕ, zero, suc, ◌+◌, ◌-◌, ◌<◌, ◌≤◌, Bool, true, false, cond, ◌||◌, List, [], ◌∷◌, ◌++◌, length, take, get_or, set, refl, sym, ap, ◌∙◌, subst, inl, inr, arith, add-one, append_assoc}
+use Rattle.std.specs.Prelude.{◌==◌, replicate}
+use Rattle.std.specs.List.{Contains}
 use Rattle.std.proofs.lemmas.Bool.{cases_eq, cases_lt, or_right, eqb-true, eq-eqb, ne_eqb, false_from_ne_true}
 use Rattle.std.proofs.lemmas.List.{append-nil, get_or-take, length-take, get_or_default, length-set, get_or-set_same, get_or-set_other}
 use Rattle.std.proofs.lemmas.List.Elements.{Contains-get_or}
@@ -10,7 +10,7 @@ use Rattle.cp_logic.specs.declared.named.Named.{Named}
 use Rattle.cp_logic.specs.Literals.{variable_of}
 use Rattle.cp_logic.specs.Clauses.{has_variable, IsAscending}
 use Rattle.cp_logic.specs.Formulas.{Formula, IsFormula, numbers_of, occurrences}
-use Rattle.cp_logic.proofs.Members.{any_member, any_from, in_here, in_later, of_filter}
+use Rattle.cp_logic.proofs.Members.{any_member, any_from, in_later, of_filter}
 use Rattle.cp_top.specs.Index.{list_of, standing_under, IsIndexOf}
 use Rattle.cp_top.specs.Building.{if_has, IsNoted}
 use Rattle.std.proofs.lemmas.List.Elements.{Contains-get_or}

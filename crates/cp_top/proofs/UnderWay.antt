@@ -1,27 +1,25 @@
 -- A sweep under way: what holds between its steps, that a step keeps it, and what it comes to.
-use Rattle.std.proofs.Common.{◌≡◌, ℕ, suc, ◌+◌, ◌-◌, ◌*◌, ◌<◌, ◌≤◌, Bool, true, false, cond, not, ◌&&◌, List, [], ◌∷◌, ◌++◌, length, take, get_or, Option, Some, None, refl, sym, ap, ◌∙◌, subst, inl, inr, arith, append_assoc, length-append}
-use Rattle.std.specs.Prelude.{slice_get, nat_le, ◌==◌, is_some}
-use Rattle.std.specs.List.{Contains, find, list_any, range_with_len}
-use Rattle.std.specs.Option.{option_and_then, option_map}
+use Rattle.std.proofs.Common.{◌≡◌, ℕ, suc, ◌+◌, ◌-◌, ◌*◌, ◌<◌, ◌≤◌, true, false, cond, not, ◌&&◌, List, [], ◌∷◌, ◌++◌, length, take, get_or, Option, Some, None, refl, sym, ap, ◌∙◌, subst, inl, arith, append_assoc}
+use Rattle.std.specs.Prelude.{◌==◌, is_some}
+use Rattle.std.specs.List.{find, list_any, range_with_len}
 use Rattle.std.proofs.lemmas.Bool.{le-leb, and_from, not_from_false, false_from_ne_true, false≢true}
 use Rattle.std.proofs.lemmas.List.{append-nil, take_all}
 use Rattle.std.proofs.Math.Nat.{suc-mul}
 use Rattle.std.proofs.lemmas.List.Sums.{sum_by-append}
 use Rattle.cp_logic.specs.declared.named.Named.{Named}
 use Rattle.cp_logic.specs.declared.settings.Rules.{Rules}
-use Rattle.cp_logic.specs.declared.settings.Stop.{Stop}
 use Rattle.cp_logic.specs.declared.settings.Stop.TheVariants.{Refuted}
 use Rattle.cp_logic.specs.Clauses.{is_empty}
 use Rattle.cp_logic.specs.Formulas.{Formula, IsFormula, has_empty, without_number}
 use Rattle.cp_logic.specs.Rules.{State, state_after}
 use Rattle.cp_logic.specs.Entries.{Entry, Taut, Subsume, Strengthen, Block, Eliminate, Look, expand, new_clauses, numbered, is_look}
 use Rattle.cp_logic.specs.Legality.{first, is_legal, is_legal_in, applies}
-use Rattle.cp_logic.specs.Journals.{Post, MayFollow, IsLegalJournal, folded, commits, start_of, number_limit}
-use Rattle.cp_logic.specs.Sweeps.{is_applicable, is_spent, variables_from, next_variable, next_entry, within_numbers, next_of_sweep, IsSweep, stop_of, enough}
+use Rattle.cp_logic.specs.Journals.{Post, IsLegalJournal, folded, commits, start_of, number_limit}
+use Rattle.cp_logic.specs.Sweeps.{is_applicable, is_spent, variables_from, next_variable, next_of_sweep, IsSweep, enough}
 use Rattle.cp_logic.proofs.Members.{any_member, any_from, of_filter}
 use Rattle.cp_logic.proofs.Bounds.{commits-bounded}
 use Rattle.cp_logic.proofs.JournalRuns.{folded-push, IsLegalJournal-push}
-use Rattle.cp_top.specs.Cursor.{Cursor, variable_at, next_searched, sweep_post, formula_after, moved, removes_one}
+use Rattle.cp_top.specs.Cursor.{Cursor, next_searched, sweep_post, formula_after, moved, removes_one}
 use Rattle.cp_top.specs.Removals.{OnlyRemoves}
 use Rattle.cp_top.specs.Swept.{IsSwept}
 use Rattle.cp_top.proofs.Finding.{find-at, find-more, none-fails}

@@ -1,5 +1,5 @@
 -- The clauses of one variable, and which entries of one kind fit them.
-use Rattle.std.specs.Prelude.{◌≡◌, ℕ, ◌==◌, ◌&&◌, not, Bool, List, map, IsTrue}
+use Rattle.std.specs.Prelude.{ℕ, ◌==◌, ◌&&◌, not, Bool, List, map, IsTrue}
 use Rattle.std.specs.List.{list_all}
 use Rattle.cp_logic.specs.declared.named.Named.{Named}
 use Rattle.cp_logic.specs.Clauses.{has_variable, is_subset}

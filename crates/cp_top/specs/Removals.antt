@@ -1,5 +1,5 @@
 -- Rules under which clauses are only removed: no budget, and no technique but tautologies and subsumed clauses.
-use Rattle.std.specs.Prelude.{◌≡◌, ℕ, IsFalse}
+use Rattle.std.specs.Prelude.{IsFalse}
 use Rattle.cp_logic.specs.declared.settings.Choice.{Choice}
 
 pub record OnlyRemoves (choice : Choice) : Type 0 where

@@ -1,7 +1,6 @@
-use Rattle.std.proofs.Common.{◌≡◌, refl, sym, ◌∙◌, subst, List}
+use Rattle.std.proofs.Common.{sym, ◌∙◌, subst, List}
 use Rattle.std.specs.List.{Contains}
 use Rattle.cp_logic.specs.declared.named.Named.{Named}
-use Rattle.cp_logic.specs.Formulas.{IsWithin}
 use Rattle.cp_logic.proofs.Members.{in_later}
 use Rattle.cp_top.proofs.occurrences.sizes_of.Goals as goal
 

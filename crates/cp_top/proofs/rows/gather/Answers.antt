@@ -1,4 +1,4 @@
-use Rattle.std.proofs.Common.{◌≡◌, ◌∙◌, sym, ap, ◌++◌, ◌∷◌, [], List, get_or}
+use Rattle.std.proofs.Common.{◌∙◌, ap, ◌++◌, ◌∷◌, [], List, get_or}
 use Rattle.std.proofs.lemmas.List.{map-append}
 use Rattle.cp_logic.specs.declared.named.Named.{Named}
 use Rattle.cp_top.specs.Cells.{cell_of, named_of}

@@ -1,4 +1,4 @@
-use Rattle.std.proofs.Common.{◌≡◌, Some, None, List, sym, ap, ◌∙◌, subst}
+use Rattle.std.proofs.Common.{Some, List, sym, ap, ◌∙◌, subst}
 use Rattle.std.specs.List.{Contains, find, flat_map}
 use Rattle.std.specs.Option.{option_map}
 use Rattle.std.proofs.lemmas.List.{take_all}

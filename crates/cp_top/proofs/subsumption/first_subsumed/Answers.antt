@@ -1,4 +1,4 @@
-use Rattle.std.proofs.Common.{◌≡◌, Some, sym, ap, ◌∙◌, Bool}
+use Rattle.std.proofs.Common.{Some, sym, ap, ◌∙◌, Bool}
 use Rattle.cp_top.specs.declared.rows.Row.{Row}
 use Rattle.cp_top.specs.Cells.{named_of, subsumes}
 use Rattle.cp_top.proofs.Finding.{find-at, find-more}

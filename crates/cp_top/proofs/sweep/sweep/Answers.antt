@@ -1,4 +1,4 @@
-use Rattle.std.proofs.Common.{◌≡◌, ◌<◌, ◌≤◌, Some, List, sym, ap, ◌∙◌, subst, arith}
+use Rattle.std.proofs.Common.{◌<◌, ◌≤◌, Some, List, sym, ◌∙◌, subst}
 use Rattle.cp_logic.specs.declared.settings.Stop.TheVariants.{Refuted}
 use Rattle.cp_logic.specs.Journals.{Post}
 use Rattle.cp_top.specs.Cursor.{Cursor}
