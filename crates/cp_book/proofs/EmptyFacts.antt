@@ -1,0 +1,50 @@
+-- Where the empty clauses are.
+use Rattle.std.proofs.Common.{◌≡◌, ℕ, Bool, true, false, cond, not, ◌||◌, List, [], ◌∷◌, ◌++◌, Some, None, refl, sym, ◌∙◌, ap}
+use Rattle.std.specs.Prelude.{is_some}
+use Rattle.std.specs.Option.{option_map}
+use Rattle.std.specs.List.{Contains, find}
+use Rattle.std.proofs.lemmas.Bool.{and_parts, not-true, false_from_ne_true, false≢true}
+use Rattle.cp_logic.specs.declared.named.Named.{Named}
+use Rattle.cp_logic.specs.declared.settings.Rules.{Rules}
+use Rattle.cp_logic.specs.Clauses.{contains, is_empty}
+use Rattle.cp_logic.specs.Formulas.{Formula, has_empty, without_numbers}
+use Rattle.cp_logic.specs.Entries.{Entry}
+use Rattle.cp_logic.specs.Legality.{is_legal_in, is_legal}
+use Rattle.cp_logic.proofs.Members.{any_from, of_filter, in_here, in_later}
+use Rattle.cp_book.specs.Empties.{least_empty}
+
+abbrev empty_clause : Named → Bool
+empty_clause c = is_empty c.clause
+
+-- there is an empty clause exactly where there is a least number of one
+pub has_empty-least : (cs : List Named) → has_empty cs ≡ is_some (least_empty cs)
+has_empty-least [] = refl
+has_empty-least (c ∷ cs) = go (is_empty c.clause) (has_empty-least cs)
+  where
+    go : (b : Bool) → has_empty cs ≡ is_some (least_empty cs) → (b || has_empty cs) ≡ is_some (option_map (λ (d : Named). d.number) (cond b (Some c) (find empty_clause cs)))
+    go true more = refl
+    go false more = more
+
+-- a legal entry finds no empty clause
+pub none_empty-legal : (f : Formula) (rules : Rules) (e : Entry) → is_legal f rules e ≡ true → has_empty f.clauses ≡ false
+unfolding is_legal
+none_empty-legal f rules e h = not-true (has_empty f.clauses) (and_parts (not (has_empty f.clauses)) (is_legal_in f.clauses rules e) h).0
+
+-- where no clause is empty, there is no least number of one
+pub no_empty-least : (cs : List Named) → least_empty cs ≡ None → has_empty cs ≡ false
+no_empty-least cs e = has_empty-least cs ∙ ap is_some e
+
+find-append_none : {X : Type 0} (p : X → Bool) (xs ys : List X) → ((x : X) → Contains xs x → p x ≡ false) → find p (xs ++ ys) ≡ find p ys
+find-append_none p [] ys h = refl
+find-append_none p (x ∷ xs) ys h =
+    ap (λ b. cond b (Some x) (find p (xs ++ ys))) (h x (in_here x x xs refl)) ∙ find-append_none p xs ys (λ y i. h y (in_later y x xs i))
+
+-- where no clause is empty, the empty ones after a removal and an addition are among the new ones
+pub least_empty-changed : (cs new : List Named) (numbers : List ℕ) → has_empty cs ≡ false → least_empty (without_numbers cs numbers ++ new) ≡ least_empty new
+least_empty-changed cs new numbers h =
+    ap (option_map (λ (c : Named). c.number))
+    (find-append_none empty_clause (without_numbers cs numbers) new
+    (λ c i. false_from_ne_true (empty_clause c) (λ t. no c (of_filter (λ (d : Named). not (contains numbers d.number)) cs c i).0 t)))
+  where
+    no : (c : Named) → Contains cs c → empty_clause c ≡ true → ⊥
+    no c i t = false≢true (sym h ∙ any_from empty_clause cs c i t)

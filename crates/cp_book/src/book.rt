@@ -1,0 +1,275 @@
+//! The book: a first formula, the rules of a run, and the posts that were made.
+//!
+//! A post takes two steps. `prepare` takes all memory that the post needs, and `post` then takes none, so a refusal for
+//! want of memory comes before anything changes. The first formula is kept only for contracts.
+ghost use Rattle.std.specs.Prelude.{◌≡◌, ◌≤◌, [], ℕ, IsTrue, IsFalse, OnOk, OnErr, IfOk, Some, None, length};
+ghost use Rattle.cp_logic.specs.Formulas.{IsFormula};
+ghost use Rattle.cp_logic.specs.Legality.{is_legal};
+ghost use Rattle.cp_logic.specs.Entries.{numbered};
+ghost use Rattle.cp_logic.specs.Journals.{IsLegalJournal, commits};
+ghost use Rattle.cp_logic.specs.Pairs.{pairs_of};
+ghost use Rattle.cp_logic.specs.Sweeps.{is_spent};
+ghost use Rattle.cp_logic.specs.Views.{entry_of};
+ghost use Rattle.cp_book.specs.Kinds.{removes_implied};
+ghost use Rattle.cp_book.specs.Empties.{least_empty};
+ghost use Rattle.cp_book.specs.Views.{current, current_pairs, with_post, stop_in};
+ghost use Rattle.cp_book.specs.Answers.{answer_to, given_answer, passes_numbers};
+
+use crate::answers::PostAnswer;
+use crate::changes::{apply, copy_of_added, empty_added, first_empty};
+use crate::legality::is_legal;
+use crate::numbering::{new_count, numbered};
+use cp_logic::{Clause, Entry, Formula, Journal, Post, Rules, Stack, Stop};
+use std::alloc::{AllocError, Global};
+use std::marker::Model;
+use std::snapshot::Snapshot;
+
+// The largest number that the next clause may have: no clause has it, or one above it.
+const NUMBER_LIMIT: u64 = 1_099_511_627_776;
+
+/// A first formula, the rules of a run, and a journal that is legal from that formula.
+///
+/// Contracts see besides the entry for which the book is prepared, if any.
+#[derive(Drop)]
+pub struct Book {
+    alloc: Global,
+    first: Snapshot<Formula>,
+    rules: Rules,
+    formula: Formula,
+    journal: Journal,
+    stack: Stack,
+    commits: u64,
+    // The least number of an empty clause. Nothing is posted once there is one.
+    empty: Option<u64>,
+    prepared: Option<Snapshot<Entry>>,
+    // A second clause of those literals that the prepared entry adds.
+    copy: Option<Clause>,
+}
+
+impl Model for Book {
+    ghost use Rattle.cp_book.specs.Views.{BookView};
+
+    ghost Value = { BookView };
+
+    ghost use Rattle.std.specs.Prelude.{ℕ};
+    ghost use Rattle.std.specs.Option.{option_map};
+    ghost use Rattle.cp_logic.specs.Pairs.{pairs_of};
+    ghost use Rattle.cp_logic.specs.Views.{entry_of};
+    ghost use Rattle.cp_book.specs.Kept.{IsLedger, IsReady};
+
+    ghost view = { λ b. record {
+      first = b.first.value.formula;
+      rules = b.rules;
+      posts = b.journal.items;
+      prepared = option_map (λ s. entry_of s.value) b.prepared;
+    } };
+
+    ghost invariant = { λ b.
+        IsLedger b.first.value.formula b.rules b.journal.items b.formula.formula (pairs_of b.stack.pairs) b.stack.vars b.commits b.empty
+        × IsReady (option_map (λ s. entry_of s.value) b.prepared) b.journal.spare b.formula.spare b.copy };
+}
+
+impl Book {
+    /// A book with no posts over this formula, whose clauses are the current ones.
+    pub fn new(alloc: Global, formula: Formula, rules: Rules) -> Result<Book, AllocError>
+        ensures { IfOk result (λ b. b ≡ record { first = formula.formula; rules = rules; posts = []; prepared = None }) }
+    {
+        let vars = formula.vars();
+        Ok(Book {
+            alloc,
+            first: Snapshot::of(&formula),
+            rules,
+            empty: first_empty(&formula),
+            formula,
+            journal: Journal::new(alloc),
+            stack: Stack::new(alloc, vars),
+            commits: 0,
+            prepared: None,
+            copy: None,
+        })
+    }
+
+    /// Makes room for one post of such an entry, and the copy that the post keeps. On a refusal the book is prepared for none.
+    pub fn prepare(&mut self, entry: &Entry) -> Result<(), AllocError>
+        requires { IsTrue (removes_implied (entry_of entry.now)) }
+        ensures same { self.new ≡ record self.old { prepared = self.new.prepared } }
+        ensures ok { OnOk result (self.new.prepared ≡ Some (entry_of entry.now)) }
+    {
+        self.prepared = None;
+        self.journal.reserve(1)?;
+        self.formula.reserve(1)?;
+        self.copy = copy_of_added(self.alloc, entry)?;
+        self.prepared = Some(Snapshot::of(entry));
+        Ok(())
+    }
+
+    /// Posts the entry, its new clause numbered from the book's next number on, and answers the position of the post.
+    ///
+    /// It takes no memory. Each refusal hands the entry back and leaves the book as it was. They come in this order:
+    /// `Refuted` where a current clause is empty, `Spent` where the commits number the budget, `Numbers` where a new clause
+    /// would pass the last clause number, `Stale` where the entry isn't legal.
+    pub fn post(&mut self, worker: u32, round: u32, entry: Entry) -> Result<u64, PostAnswer>
+        requires kind { IsTrue (removes_implied (entry_of entry)) }
+        requires prepared { self.old.prepared ≡ Some (entry_of entry) }
+        ensures answer { given_answer result ≡ answer_to self.old (entry_of entry) }
+        ensures ok { OnOk result (self.new ≡ with_post self.old worker round (entry_of entry)) }
+        ensures err { OnErr result (self.new ≡ self.old) }
+    {
+        if let Some(empty) = self.least_empty() {
+            return Err(PostAnswer::Refuted { empty, entry });
+        }
+        if self.is_spent() {
+            let len = self.commits();
+            return Err(PostAnswer::Spent { len, entry });
+        }
+        if self.passes_numbers(&entry) {
+            let next = self.next();
+            return Err(PostAnswer::Numbers { next, entry });
+        }
+        if !self.allows(&entry) {
+            return Err(PostAnswer::Stale { entry });
+        }
+        Ok(self.append(worker, round, entry))
+    }
+
+    /// The number of the next new clause.
+    pub fn next(&self) -> u64
+        ensures { result ≡ (current self.now).next }
+    {
+        self.formula.next()
+    }
+
+    /// The number of posts that aren't Look.
+    pub fn commits(&self) -> u64
+        ensures { result ≡ commits self.now.posts }
+    {
+        self.commits
+    }
+
+    /// The posts.
+    pub fn journal(&self) -> &Journal
+        ensures { result.now.items ≡ self.now.posts }
+    {
+        &self.journal
+    }
+
+    /// The pairs that the posts lead to, over the variables of the first formula.
+    pub fn stack(&self) -> &Stack
+        ensures pairs { pairs_of result.now.pairs ≡ current_pairs self.now }
+        ensures variables { result.now.vars ≡ self.now.first.variables }
+    {
+        &self.stack
+    }
+
+    /// The rules of the run.
+    pub fn rules(&self) -> &Rules
+        ensures { result.now ≡ self.now.rules }
+    {
+        &self.rules
+    }
+
+    /// The current clauses: those that the posts leave of the first formula, and those that they added.
+    pub fn clauses(&self) -> &Formula
+        ensures { result.now.formula ≡ current self.now }
+    {
+        &self.formula
+    }
+
+    /// Why no more is posted, whatever the entry: `Refuted` where a current clause is empty, else `Spent` where the commits
+    /// number the budget.
+    pub fn stopped(&self) -> Option<Stop>
+        ensures { result ≡ stop_in self.now }
+    {
+        if self.least_empty().is_some() {
+            Some(Stop::Refuted)
+        } else if self.is_spent() {
+            Some(Stop::Spent)
+        } else {
+            None
+        }
+    }
+
+    /// The journal is legal from the first formula, and what it leads to is a formula.
+    pub fn is_legal(&self)
+        ensures first { IsFormula self.now.first }
+        ensures now { IsFormula (current self.now) }
+        ensures journal { IsLegalJournal self.now.first self.now.rules self.now.posts }
+    {
+        let _ = self.formula.vars();
+    }
+
+    /// The journal and the stack. What else the book has is dropped.
+    pub fn into_parts(self) -> (Journal, Stack)
+        ensures posts { result.0.items ≡ self.posts }
+        ensures pairs { pairs_of result.1.pairs ≡ current_pairs self }
+        ensures variables { result.1.vars ≡ self.first.variables }
+    {
+        (self.journal, self.stack)
+    }
+
+    /// The current clauses, the journal and the stack, with no copy made.
+    pub fn close(self) -> (Formula, Journal, Stack)
+        ensures clauses { result.0.formula ≡ current self }
+        ensures posts { result.1.items ≡ self.posts }
+        ensures pairs { pairs_of result.2.pairs ≡ current_pairs self }
+        ensures variables { result.2.vars ≡ self.first.variables }
+    {
+        (self.formula, self.journal, self.stack)
+    }
+
+    // The least number of an empty clause, if there is one.
+    fn least_empty(&self) -> Option<u64>
+        ensures { result ≡ least_empty (current self.now).clauses }
+    {
+        self.empty
+    }
+
+    // Whether the commits number the budget.
+    fn is_spent(&self) -> bool
+        ensures { result ≡ is_spent self.now.rules (commits self.now.posts) }
+    {
+        self.rules.budget != 0 && self.commits == self.rules.budget
+    }
+
+    /// Whether the entry's new clause would pass the last clause number, so that `post` refuses it by `Numbers` where the book
+    /// isn't stopped.
+    pub fn passes_numbers(&self, entry: &Entry) -> bool
+        requires { IsTrue (removes_implied (entry_of entry.now)) }
+        ensures { result ≡ passes_numbers (current self.now) (entry_of entry.now) }
+    {
+        self.formula.next() > NUMBER_LIMIT - new_count(entry)
+    }
+
+    // Whether the entry is legal in the current clauses, of which none is empty.
+    fn allows(&self, entry: &Entry) -> bool
+        requires kind { IsTrue (removes_implied (entry_of entry.now)) }
+        requires open_still { least_empty (current self.now).clauses ≡ None }
+        ensures { result ≡ is_legal (current self.now) self.now.rules (entry_of entry.now) }
+    {
+        is_legal(&self.formula, &self.rules, entry)
+    }
+
+    // Appends the post of an entry that is legal, and changes the clauses.
+    fn append(&mut self, worker: u32, round: u32, entry: Entry) -> u64
+        requires kind { IsTrue (removes_implied (entry_of entry)) }
+        requires prepared { self.old.prepared ≡ Some (entry_of entry) }
+        requires unspent { IsFalse (is_spent self.old.rules (commits self.old.posts)) }
+        requires numbers { IsFalse (passes_numbers (current self.old) (entry_of entry)) }
+        requires legal { IsTrue (is_legal (current self.old) self.old.rules (entry_of entry)) }
+        ensures book { self.new ≡ with_post self.old worker round (entry_of entry) }
+        ensures position { result ≡ length self.old.posts }
+    {
+        let entry = numbered(entry, self.formula.next());
+        self.empty = empty_added(&entry);
+        apply(&mut self.formula, &entry, self.copy.take());
+        self.prepared = None;
+        let position = self.journal.push_reserved(Post {
+            worker,
+            round,
+            entry,
+        });
+        let _len = self.journal.len();
+        self.commits += 1;
+        position
+    }
+}

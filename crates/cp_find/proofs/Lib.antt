@@ -1,0 +1,5 @@
+pub mod Scans
+pub mod Firsts
+pub mod Passes
+pub mod Searches
+pub mod Least

@@ -1,0 +1,4 @@
+pub mod Numbered
+pub mod Entered
+pub mod Changed
+pub mod Posted

@@ -1,0 +1,170 @@
+//! Cells: the clauses of one variable.
+ghost use Rattle.std.specs.Prelude.{◌≡◌, ◌≢◌, ◌≤◌, ◌<◌, ◌+◌, ◌==◌, ℕ, [], ◌∷◌, ◌++◌, length, slice_get, slice_index_or, IsTrue, OnOk, IfOk, IfSome, IfNone};
+ghost use Rattle.std.specs.List.{All};
+ghost use Rattle.std.specs.Option.{option_map};
+ghost use Rattle.cp_logic.specs.Literals.{positive, negative};
+ghost use Rattle.cp_logic.specs.Clauses.{has_variable, IsAscending};
+ghost use Rattle.cp_logic.specs.Formulas.{numbers_of, find_number, without_number};
+ghost use Rattle.cp_logic.specs.Legality.{clauses_with};
+ghost use Rattle.cp_logic.specs.Items.{named_item};
+
+use crate::iter::{CellIter, LiteralIter};
+use crate::occurrence::Occurrence;
+use crate::place::Place;
+use cp_logic::{Clause, Lit};
+use std::alloc::{AllocError, Global};
+use std::marker::Model;
+
+/// A variable and the clauses that have it, with their numbers, by ascending number.
+#[derive(Drop)]
+pub struct Cell {
+    var: u32,
+    occurrences: Vec<Occurrence>,
+}
+
+impl Model for Cell {
+    ghost use Rattle.std.specs.Prelude.{◌-◌, vec_len, vec_capacity};
+    ghost use Rattle.cp_occ.specs.Cells.{CellView, IsListed};
+
+    ghost Value = { CellView };
+
+    ghost view = { λ c. record {
+      variable = c.var;
+      clauses = c.occurrences.items;
+      spare = vec_capacity c.occurrences - vec_len c.occurrences;
+    } };
+
+    ghost invariant = { λ c. IsListed c.var c.occurrences.items };
+}
+
+impl Cell {
+    ghost use Rattle.cp_occ.specs.Cells.{IsCell};
+
+    /// The cell of the variable, with no clause. It takes no memory.
+    pub fn new(alloc: Global, var: u32) -> Cell
+        requires low { 1 ≤ var }
+        requires high { var ≤ 2000000 }
+        ensures variable { result.variable ≡ var }
+        ensures clauses { result.clauses ≡ [] }
+    {
+        Cell {
+            var,
+            occurrences: Vec::new(alloc),
+        }
+    }
+
+    // The cell of the variable, with no clause, and with room for just `n`.
+    pub(crate) fn with_room(alloc: Global, var: u32, n: usize) -> Result<Cell, AllocError>
+        requires low { 1 ≤ var }
+        requires high { var ≤ 2000000 }
+        ensures variable { IfOk result (λ c. c.variable ≡ var) }
+        ensures clauses { IfOk result (λ c. c.clauses ≡ []) }
+    {
+        let occurrences = Vec::with_capacity(alloc, n)?;
+        Ok(Cell { var, occurrences })
+    }
+
+    /// The variable. It is 1 to 2,000,000, the numbers of the clauses rise, and each clause has the variable.
+    pub fn var(&self) -> u32
+        ensures value { result ≡ self.now.variable }
+        ensures valid { IsCell self.now }
+    {
+        self.var
+    }
+
+    /// The number of clauses.
+    pub fn len(&self) -> usize
+        ensures { result ≡ length self.now.clauses }
+    {
+        self.occurrences.len()
+    }
+
+    /// Whether there is no clause.
+    pub fn is_empty(&self) -> bool
+        ensures { result ≡ (length self.now.clauses == 0) }
+    {
+        self.occurrences.is_empty()
+    }
+
+    /// The clauses with their numbers, by ascending number.
+    pub fn iter(&self) -> CellIter<'_>
+        ensures { result ≡ self.now.clauses }
+    {
+        CellIter {
+            left: self.occurrences.as_slice(),
+        }
+    }
+    /// The clauses with the variable itself, with their numbers, by ascending number.
+    pub fn pos(&self) -> LiteralIter<'_>
+        ensures { result ≡ clauses_with self.now.clauses (positive self.now.variable) }
+    {
+        LiteralIter {
+            left: self.occurrences.as_slice(),
+            lit: Lit::new(self.var, true),
+        }
+    }
+
+    /// The clauses with the variable's negation, with their numbers, by ascending number.
+    pub fn neg(&self) -> LiteralIter<'_>
+        ensures { result ≡ clauses_with self.now.clauses (negative self.now.variable) }
+    {
+        LiteralIter {
+            left: self.occurrences.as_slice(),
+            lit: Lit::new(self.var, false),
+        }
+    }
+
+    /// The clause at the position from 0 on, with its number, or `None` past the last one.
+    pub fn get(&self, i: usize) -> Option<(u64, &Clause)>
+        ensures { option_map named_item result ≡ slice_get self.now.clauses i }
+    {
+        let found = self.occurrences.get(i)?;
+        Some((found.number(), found.clause()))
+    }
+
+    /// Makes room for `n` further clauses. The error comes only for want of memory, and leaves the cell as it was.
+    pub fn reserve(&mut self, n: usize) -> Result<(), AllocError>
+        ensures variable { self.new.variable ≡ self.old.variable }
+        ensures clauses { self.new.clauses ≡ self.old.clauses }
+        ensures ok { OnOk result (n ≤ self.new.spare) }
+        ensures more { self.old.spare ≤ self.new.spare }
+    {
+        self.occurrences.reserve(n)
+    }
+
+    /// Adds the clause at the end, where there is room. It takes no memory.
+    pub fn insert(&mut self, number: u64, place: Place)
+        requires room { 0 < self.old.spare }
+        requires above { All (λ c. c.number < number) self.old.clauses }
+        requires has { IsTrue (has_variable self.old.variable place) }
+        ensures variable { self.new.variable ≡ self.old.variable }
+        ensures clauses { self.new.clauses ≡ self.old.clauses ++ record { number = number; clause = place } ∷ [] }
+        ensures spare { self.new.spare + 1 ≡ self.old.spare }
+    {
+        let _ = place.clause().lits();
+        self.occurrences
+            .push_reserved(Occurrence::new(number, place));
+    }
+
+    /// Takes the clause away that stands under the number, or answers `None` where there is none. It takes no memory.
+    pub fn remove(&mut self, number: u64) -> Option<Place>
+        ensures value { result ≡ option_map (λ c. c.clause) (find_number self.old.clauses number) }
+        ensures variable { self.new.variable ≡ self.old.variable }
+        ensures clauses { self.new.clauses ≡ without_number self.old.clauses number }
+        ensures spare { self.old.spare ≤ self.new.spare }
+    {
+        let at = position(self.occurrences.as_slice(), number)?;
+        Some(self.occurrences.remove(at).into_place())
+    }
+}
+
+// The position of the clause under the number, if there is one.
+fn position(occurrences: &[Occurrence], number: u64) -> Option<usize>
+    requires { IsAscending (numbers_of occurrences.now) }
+    ensures some { IfSome result (λ i. (i < length occurrences.now) × ((d : _) → (slice_index_or occurrences.now i d).number ≡ number)) }
+    ensures none { IfNone result (All (λ c. c.number ≢ number) occurrences.now) }
+{
+    occurrences
+        .binary_search_by_key(&number, |occurrence| occurrence.number())
+        .ok()
+}

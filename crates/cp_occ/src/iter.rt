@@ -1,0 +1,72 @@
+//! Iterators over the clauses of a cell.
+ghost use Rattle.std.specs.Prelude.{◌≡◌};
+ghost use Rattle.std.specs.Iterator.{YieldsFirstBy, item_count};
+ghost use Rattle.cp_logic.specs.Items.{named_item};
+
+use crate::occurrence::Occurrence;
+use cp_logic::{Clause, Lit};
+use std::marker::Model;
+
+/// The clauses of a cell with their numbers, by ascending number, seen as the list of those that are left.
+#[derive(Drop)]
+pub struct CellIter<'a> {
+    pub(crate) left: &'a [Occurrence],
+}
+
+impl<'a> Model for CellIter<'a> {
+    ghost use Rattle.std.specs.Prelude.{List};
+    ghost use Rattle.cp_logic.specs.declared.named.Named.{Named};
+
+    ghost Value = { List Named };
+
+    ghost view = { λ it. it.left.now };
+}
+
+impl<'a> Iterator for CellIter<'a> {
+    type Item = (u64, &'a Clause);
+
+    ghost next_gives = { YieldsFirstBy named_item (λ rest. rest) };
+
+    ghost remaining = { item_count (λ rest. rest) };
+
+    fn next(&mut self) -> Option<(u64, &'a Clause)> {
+        let (first, rest) = self.left.split_first()?;
+        self.left = rest;
+        Some((first.number(), first.clause()))
+    }
+}
+
+/// The clauses of a cell that have a literal, with their numbers, by ascending number, seen as the list of those that are left.
+#[derive(Drop)]
+pub struct LiteralIter<'a> {
+    pub(crate) left: &'a [Occurrence],
+    pub(crate) lit: Lit,
+}
+
+impl<'a> Model for LiteralIter<'a> {
+    ghost use Rattle.std.specs.Prelude.{List};
+    ghost use Rattle.cp_logic.specs.declared.named.Named.{Named};
+    ghost use Rattle.cp_logic.specs.Legality.{clauses_with};
+
+    ghost Value = { List Named };
+
+    ghost view = { λ it. clauses_with it.left.now it.lit };
+}
+
+impl<'a> Iterator for LiteralIter<'a> {
+    type Item = (u64, &'a Clause);
+
+    ghost next_gives = { YieldsFirstBy named_item (λ rest. rest) };
+
+    ghost remaining = { item_count (λ rest. rest) };
+
+    fn next(&mut self) -> Option<(u64, &'a Clause)> {
+        while let Some((first, rest)) = self.left.split_first() {
+            self.left = rest;
+            if first.clause().contains(self.lit) {
+                return Some((first.number(), first.clause()));
+            }
+        }
+        None
+    }
+}

@@ -1,0 +1,27 @@
+//! Clauses that are shared, and for each variable the list of the clauses that have it.
+#![tactic(auto)]
+
+mod cell;
+mod cells;
+mod changes;
+mod filling;
+mod iter;
+mod occurrence;
+mod place;
+#[cfg(test)]
+mod tests;
+mod variables;
+
+pub use cell::Cell;
+pub use cells::Cells;
+pub use changes::Prepared;
+pub use iter::{CellIter, LiteralIter};
+pub use place::Place;
+
+// Places and cells may be shared by threads and moved between them.
+fn may_cross_threads<T: Send + Sync>() {}
+
+pub(crate) fn cross_threads() {
+    may_cross_threads::<Place>();
+    may_cross_threads::<Cell>();
+}

@@ -1,0 +1,31 @@
+-- The cell of a variable, read out of the cells of a formula.
+use Rattle.std.proofs.Common.{◌≡◌, ℕ, ◌+◌, ◌-◌, ◌<◌, ◌≤◌, List, length, get_or, Option, Some, None, sym, ◌∙◌, ap, subst, arith}
+use Rattle.std.specs.List.{slice_get}
+use Rattle.std.proofs.lemmas.Option.{get_or_from_slice_get, slice_get-get_or}
+use Rattle.cp_logic.specs.Formulas.{Formula, occurrences}
+use Rattle.cp_occ.specs.Cells.{CellView}
+use Rattle.cp_occ.specs.Changes.{AreCellsOf}
+use Rattle.cp_occ.proofs.Posted.{cells-length, cells-numbered, cells-list}
+
+module _ (f : Formula) (cells : List CellView) (a : AreCellsOf f cells) (x : ℕ) (low : 1 ≤ x) (high : x ≤ f.variables) where
+  place : x - 1 < length cells
+  place = omega (arith, cells-length f cells a)
+
+  -- there is one
+  pub cell-there : slice_get cells (x - 1) ≡ None → ⊥
+  cell-there h = absurd (none_some (get_or cells (x - 1) blank) (sym h ∙ slice_get-get_or cells (x - 1) blank place))
+    where
+      blank : CellView
+      blank = record { variable = 0; clauses = Rattle.std.proofs.Common.[]; spare = 0 }
+
+      none_some : (c : CellView) → None ≡ Some c → ⊥
+      none_some c e = cc
+
+  -- it is that of the variable, and lists its occurrences
+  pub cell-is : (cell : CellView) → slice_get cells (x - 1) ≡ Some cell → (cell.variable ≡ x) × (cell.clauses ≡ occurrences f.clauses x)
+  cell-is cell h =
+      let is : get_or cells (x - 1) cell ≡ cell = get_or_from_slice_get cells (x - 1) cell cell h in
+      let back : x - 1 + 1 ≡ x = omega arith in (
+        ap (λ (c : CellView). c.variable) (sym is) ∙ cells-numbered f cells a (x - 1) cell place ∙ back,
+        ap (λ (c : CellView). c.clauses) (sym is) ∙ cells-list f cells a (x - 1) cell place ∙ ap (occurrences f.clauses) back,
+      )

@@ -1,0 +1,124 @@
+-- The post of the entry that the search gave: the book takes it, and the cells follow.
+use Rattle.std.proofs.Common.{◌≡◌, ℕ, ◌+◌, Bool, true, false, cond, List, [], ◌∷◌, ◌++◌, length, Option, Some, None, Result, Ok, Err, is_err, refl, sym, ◌∙◌, ap, subst, arith}
+use Rattle.std.specs.Prelude.{is_some, nat_le}
+use Rattle.std.proofs.lemmas.Bool.Decides.{nat_tests}
+use Rattle.cp_logic.specs.declared.settings.Rules.{Rules}
+use Rattle.cp_logic.specs.declared.settings.Stop.{Stop}
+use Rattle.cp_logic.specs.declared.settings.Stop.TheVariants.{Refuted as StopRefuted, Spent as StopSpent, Numbers as StopNumbers}
+use Rattle.cp_logic.specs.Formulas.{Formula, IsFormula, has_empty}
+use Rattle.cp_logic.specs.Rules.{Rule, Add, Drop, Weaken, State, state_after, applied, added, removed}
+use Rattle.cp_logic.specs.Entries.{Entry, Taut, Subsume, Strengthen, Block, Eliminate, Look, expand, new_clauses, numbered}
+use Rattle.cp_logic.specs.Legality.{is_legal}
+use Rattle.cp_logic.specs.Journals.{Post, folded, start_of, commits, number_limit}
+use Rattle.cp_logic.proofs.JournalRuns.{folded-push}
+use Rattle.cp_logic.specs.Sweeps.{is_spent}
+use Rattle.cp_book.specs.declared.answers.PostAnswer.{PostAnswer}
+use Rattle.cp_book.specs.declared.answers.PostAnswer.TheVariants.{Refuted as HeldRefuted, Spent as HeldSpent, Numbers as HeldNumbers, Stale as HeldStale}
+use Rattle.cp_book.specs.Answers.{Answer, Posted, given_answer, answer_to, passes_numbers}
+use Rattle.cp_book.specs.Empties.{least_empty}
+use Rattle.cp_book.specs.Kinds.{removes_implied}
+use Rattle.cp_book.specs.Views.{BookView, current, stop_in, with_post}
+use Rattle.cp_book.proofs.EmptyFacts.{has_empty-least}
+use Rattle.cp_occ.specs.Cells.{CellView, variables_of, lists_of}
+use Rattle.cp_occ.specs.Changes.{replaces_one, lists_after, AreCellsOf}
+use Rattle.cp_occ.proofs.Posted.{cells-after}
+use Rattle.cp_sweep.specs.Cursor.{Cursor, Turn, turn_for, after_post, sweep_post}
+
+-- the two words for an entry that removes one clause and adds at most one say the same
+pub replaces : (e : Entry) → removes_implied e ≡ true → replaces_one e ≡ true
+replaces (Taut gone) h = h
+replaces (Subsume by gone) h = h
+replaces (Strengthen by on l new) h = h
+replaces (Block gone l) h = h
+replaces (Eliminate x pos neg new) h = h
+replaces (Look x) h = h
+
+-- an answer that posts is no refusal
+pub posted-ok : (r : Result ℕ PostAnswer) (a : Answer) (n : ℕ) → given_answer r ≡ a → a ≡ Posted n → is_err r ≡ false
+posted-ok (Ok position) a n h p = refl
+posted-ok (Err (HeldRefuted empty entry)) a n h p = cc
+posted-ok (Err (HeldSpent len entry)) a n h p = cc
+posted-ok (Err (HeldNumbers next entry)) a n h p = cc
+posted-ok (Err (HeldStale entry)) a n h p = cc
+
+no_least : (o : Option ℕ) → is_some o ≡ false → o ≡ None
+no_least None h = refl
+no_least (Some n) h = cc
+
+-- where a book isn't stopped, no clause is empty and the budget isn't spent
+pub goes-on : (b : BookView) → stop_in b ≡ None → (has_empty (current b).clauses ≡ false) × (is_spent b.rules (commits b.posts) ≡ false)
+goes-on b h = go (has_empty (current b).clauses) (is_spent b.rules (commits b.posts)) h
+  where
+    go : (e s : Bool) → cond e (Some StopRefuted) (cond s (Some StopSpent) None) ≡ None → (e ≡ false) × (s ≡ false)
+    go true s t = cc
+    go false true t = cc
+    go false false t = (refl, refl)
+
+-- where it is stopped, which of the two it is
+pub stopped-by : (b : BookView) (s : Stop) → stop_in b ≡ Some s
+    → (c : Cursor) → cond (has_empty (current b).clauses) (let t : Turn = record { stop = Some StopRefuted; cursor = c } in t)
+    (cond (is_spent b.rules (commits b.posts)) (let t : Turn = record { stop = Some StopSpent; cursor = c } in t) (let t : Turn = record { stop = Some s; cursor = c } in t))
+    ≡ record { stop = Some s; cursor = c }
+stopped-by b s h c = go (has_empty (current b).clauses) (is_spent b.rules (commits b.posts)) h
+  where
+    go : (e k : Bool) → cond e (Some StopRefuted) (cond k (Some StopSpent) None) ≡ Some s
+        → cond e (let t : Turn = record { stop = Some StopRefuted; cursor = c } in t) (cond k (let t : Turn = record { stop = Some StopSpent; cursor = c } in t) (let t : Turn = record { stop = Some s; cursor = c } in t)) ≡ record { stop = Some s; cursor = c }
+    go true k t = ap (λ (o : Option Stop). let u : Turn = record { stop = o; cursor = c } in u) t
+    go false true t = ap (λ (o : Option Stop). let u : Turn = record { stop = o; cursor = c } in u) t
+    go false false t = refl
+
+-- the book takes a legal entry whose numbers fit
+pub takes : (b : BookView) (e : Entry) → stop_in b ≡ None → passes_numbers (current b) e ≡ false → is_legal (current b) b.rules (numbered (current b).next e) ≡ true
+    → answer_to b e ≡ Posted (length b.posts)
+takes b e goes fits legal =
+    let on = goes-on b goes in
+    let empty : least_empty (current b).clauses ≡ None = no_least (least_empty (current b).clauses) (sym (has_empty-least (current b).clauses) ∙ on.0) in
+    rw (empty, on.1, fits, legal) refl
+
+-- whether the numbers fit
+pub fits-from : (f : Formula) (e : Entry) → passes_numbers f e ≡ false → nat_le (f.next + length (new_clauses e)) number_limit ≡ true
+fits-from f e h = grind (arith, nat_tests)
+
+pub fits-not : (f : Formula) (e : Entry) → passes_numbers f e ≡ true → nat_le (f.next + length (new_clauses e)) number_limit ≡ false
+fits-not f e h = grind (arith, nat_tests)
+
+-- the turn of an entry that was posted, and of one that has no number
+pub turn-posted : (left : Formula) (c : Cursor) (x : ℕ) (e : Entry) → passes_numbers left e ≡ false → turn_for left c x (Some e) ≡ record { stop = None; cursor = after_post c x e }
+turn-posted left c x e h = rw (fits-from left e h) refl
+
+pub turn-numbers : (left : Formula) (c : Cursor) (x : ℕ) (e : Entry) → passes_numbers left e ≡ true → turn_for left c x (Some e) ≡ record { stop = Some StopNumbers; cursor = c }
+turn-numbers left c x e h = rw (fits-not left e h) refl
+
+-- a turn that goes on, with its cursor at a post
+abbrev pub turn_at : List Post → ℕ → Turn
+turn_at posts x = record { stop = None; cursor = record { posts = posts; mark = x; quiet = 0 } }
+
+same-formula : (s t : State) (rs : List Rule) → s.formula ≡ t.formula → (state_after s rs).formula ≡ (state_after t rs).formula
+same-formula s t [] e = e
+same-formula s t (Add c ∷ rs) e = same-formula (applied s (Add c)) (applied t (Add c)) rs (ap (λ f. added f c) e)
+same-formula s t (Drop c ∷ rs) e = same-formula (applied s (Drop c)) (applied t (Drop c)) rs (ap (λ f. removed f c.number) e)
+same-formula s t (Weaken c l ∷ rs) e = same-formula (applied s (Weaken c l)) (applied t (Weaken c l)) rs (ap (λ f. removed f c.number) e)
+
+-- the formula that rules lead to doesn't depend on the pairs
+only-formula : (s : State) (rs : List Rule) → (state_after s rs).formula ≡ (state_after (start_of s.formula) rs).formula
+only-formula s rs = same-formula s (start_of s.formula) rs refl
+
+-- the book with the post of such an entry
+module _ (b : BookView) (e : Entry) (n : e ≡ numbered (current b).next e) where
+  posts-are : (with_post b 0 0 e).posts ≡ b.posts ++ sweep_post e ∷ []
+  posts-are = ap (λ d. b.posts ++ sweep_post d ∷ []) (sym n)
+
+  left-is : current (with_post b 0 0 e) ≡ (state_after (start_of (current b)) (expand e)).formula
+  left-is = ap (λ (ps : List Post). (folded b.first ps).formula) posts-are ∙ ap (λ (s : State). s.formula) (folded-push b.first b.posts (sweep_post e)) ∙ only-formula (folded b.first b.posts) (expand e)
+
+  -- its cells are those of what it leaves
+  pub posted-cells : (rules : Rules) (old new : List CellView) → IsFormula (current b) → is_legal (current b) rules e ≡ true → AreCellsOf (current b) old
+      → variables_of new ≡ variables_of old → lists_of new ≡ lists_after old e → AreCellsOf (current (with_post b 0 0 e)) new
+  posted-cells rules old new v h a vs ls = subst (λ (f : Formula). AreCellsOf f new) (sym left-is) (cells-after (current b) rules e old new v h n a vs ls)
+
+  -- and its cursor is that of the turn
+  pub posted-turn : (mark quiet x : ℕ) → passes_numbers (current b) e ≡ false
+      → turn_at (with_post b 0 0 e).posts x ≡ turn_for (current b) (record { posts = b.posts; mark = mark; quiet = quiet }) x (Some e)
+  posted-turn mark quiet x h =
+      ap (λ (ps : List Post). turn_at ps x) posts-are
+      ∙ sym (turn-posted (current b) (record { posts = b.posts; mark = mark; quiet = quiet }) x e h)

@@ -1,0 +1,4 @@
+pub mod Chosen
+pub mod Cursor
+pub mod Sweeping
+pub mod Swept

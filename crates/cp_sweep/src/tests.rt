@@ -1,0 +1,155 @@
+//! Sweeps of small formulas, with their entries and what is left.
+
+ghost use Rattle.std.specs.Prelude.{◌≡◌, ◌≤◌, ◌^◌, IfOk, nat_lt};
+ghost use Rattle.std.specs.List.{list_all};
+ghost use Rattle.cp_logic.specs.Literals.{variable_of};
+
+use crate::simplify;
+use cp_logic::{Choice, Clause, Entry, Formula, Journal, Lit, Rules, Stop};
+use std::alloc::{AllocError, Global};
+use std::fmt::Write;
+use std::process::Abort;
+use std::test::Fail;
+
+const CHOICE: Choice = Choice {
+    t: true,
+    s: true,
+    x: true,
+    b: false,
+    e: false,
+};
+
+// The literal of a variable from 1 to 3.
+fn lit(code: u8) -> Lit {
+    match code {
+        2 => Lit::new(1, true),
+        3 => Lit::new(1, false),
+        4 => Lit::new(2, true),
+        5 => Lit::new(2, false),
+        6 => Lit::new(3, true),
+        _ => Lit::new(3, false),
+    }
+}
+
+fn clause(alloc: Global, codes: &[u8]) -> Result<Clause, AllocError> {
+    let mut lits = Vec::new(alloc);
+    for code in codes {
+        lits.push(lit(*code))?;
+    }
+    Clause::from_lits(alloc, &lits)
+}
+
+fn are_above_zero(clause: &Clause) -> bool
+    ensures { result ≡ list_all (λ l. nat_lt 0 (variable_of l)) clause.now }
+{
+    clause.lits().iter().all(|lit| 0 < lit.var())
+}
+
+fn are_below(clause: &Clause, end: u32) -> bool
+    ensures { result ≡ list_all (λ l. nat_lt (variable_of l) end) clause.now }
+{
+    clause.lits().iter().all(|lit| lit.var() < end)
+}
+
+// Adds the clause under the next number, where that and its variables are in range.
+fn add(alloc: Global, formula: &mut Formula, codes: &[u8]) -> Result<(), Fail> {
+    let clause = clause(alloc, codes)?;
+    let vars = formula.vars();
+    if vars <= 2_000_000
+        && are_above_zero(&clause)
+        && are_below(&clause, vars + 1)
+        && formula.next() < 1_099_511_627_776
+    {
+        formula.push(clause)?;
+    }
+    Ok(())
+}
+
+// The entries of a journal, each as its letter and the numbers of its clauses.
+fn letters_of(alloc: Global, journal: &Journal) -> Result<String, Fail> {
+    let mut text = String::new(alloc);
+    for post in journal.as_slice() {
+        match &post.entry {
+            Entry::Taut { gone } => write!(text, "t{} ", gone.number)?,
+            Entry::Subsume { by, gone } => write!(text, "s{},{} ", by.number, gone.number)?,
+            Entry::Strengthen { by, on, new, .. } => {
+                write!(text, "x{},{}:{} ", by.number, on.number, new.number)?
+            }
+            _ => text.push_str("? ")?,
+        }
+    }
+    Ok(text)
+}
+
+// The codes of the clauses, the budget, and then the posts, the clauses that are left and the stop.
+type Row = (
+    &'static [&'static [u8]],
+    u64,
+    &'static str,
+    usize,
+    Option<Stop>,
+);
+
+fn assert_row(rt: &impl Abort, alloc: Global, row: &Row, first: u64) -> Result<(), Fail>
+    requires low { 1 ≤ first }
+    requires high { first ≤ 2 ^ 40 }
+{
+    let (clauses, budget, posts, left, stop) = row;
+    let mut formula = Formula::new(alloc, 3, first);
+    for codes in *clauses {
+        add(alloc, &mut formula, codes)?;
+    }
+    let rules = Rules {
+        choice: CHOICE,
+        bound: 0,
+        budget: *budget,
+    };
+    if formula.next() > 1_099_511_627_776 {
+        return Ok(());
+    }
+    let swept = simplify(alloc, formula, &rules)?;
+    assert_eq!(rt; letters_of(alloc, &swept.journal)?.as_str(), *posts);
+    assert_eq!(rt; swept.formula.len(), *left);
+    assert_eq!(rt; swept.stopped, *stop);
+    Ok(())
+}
+
+#[test]
+fn formulas_are_swept(rt: HostRuntime) -> Result<(), Fail> {
+    let rows: [Row; 6] = [
+        (&[], 0, "", 0, None),
+        (&[&[2], &[3]], 0, "x1,2:3 ", 2, Some(Stop::Refuted)),
+        (&[&[2], &[3, 4], &[5, 6]], 0, "x1,2:4 x4,3:5 ", 3, None),
+        (
+            &[&[2], &[3, 4], &[5, 6]],
+            1,
+            "x1,2:4 ",
+            3,
+            Some(Stop::Spent),
+        ),
+        (
+            &[&[2, 3, 4], &[4, 6], &[6, 4], &[6]],
+            0,
+            "t1 s2,3 s4,2 ",
+            1,
+            None,
+        ),
+        (
+            &[&[2, 4], &[3, 4], &[5, 6]],
+            0,
+            "x1,2:4 s4,1 x4,3:5 ",
+            2,
+            None,
+        ),
+    ];
+    for row in &rows {
+        assert_row(&rt, rt.alloc(), row, 1)?;
+    }
+    Ok(())
+}
+
+#[test]
+fn numbers_end(rt: HostRuntime) -> Result<(), Fail> {
+    let row: Row = (&[&[2], &[3]], 0, "", 2, Some(Stop::Numbers));
+    assert_row(&rt, rt.alloc(), &row, 1_099_511_627_774)
+}
