@@ -9,14 +9,14 @@ use Rattle.cp_logic.specs.declared.named.Named.{Named}
 use Rattle.cp_logic.specs.Literals.{negated, positive, negative, variable_of}
 use Rattle.cp_logic.specs.Clauses.{contains, is_subset, is_tautology, has_variable, without}
 use Rattle.cp_logic.specs.Entries.{Entry, Taut, Subsume, is_at}
-use Rattle.cp_logic.specs.Legality.{fits, tauts, subsumptions, strengthening, strengthenings}
+use Rattle.cp_logic.specs.Legality.{fits, tauts, subsumptions, strengthening, strengthenings, first_of_kind}
 use Rattle.cp_logic.proofs.Members.{in_map, of_map, all_from, contains-in, in_contains}
 use Rattle.cp_logic.proofs.LiteralFacts.{variable_of-positive, variable_of-negative, same_variable, negated-positive, negated-negative, negated-negated, negated-other}
 use Rattle.cp_logic.proofs.SetFacts.{subset-in, in_without, of_without}
 use Rattle.cp_logic.proofs.Parts.{IsStrengthen, taut-fits, subsume-fits, strengthen-fits}
 use Rattle.cp_logic.proofs.Locals.{same_bool, taut-from, subsume-from, strengthen-from}
 use Rattle.cp_occ.specs.Cells.{CellView, IsOf, IsCell}
-use Rattle.cp_find.specs.Finds.{first_of_kind, subsumes, struck, turned, strengthens}
+use Rattle.cp_find.specs.Finds.{subsumes, struck, turned, strengthens}
 use Rattle.cp_find.proofs.Scans.{first_some, find-images, find-lists, find-one, find-nothing, first_some-chosen, first_some-nothing}
 
 -- each clause of the list has the variable

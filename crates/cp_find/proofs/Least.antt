@@ -3,10 +3,9 @@ use Rattle.std.proofs.Common.{◌≡◌, ℕ, Bool, true, false, Option, Some, N
 use Rattle.std.proofs.lemmas.Bool.{and_parts, and_from, false≢true}
 use Rattle.cp_logic.specs.Formulas.{Formula, IsFormula}
 use Rattle.cp_logic.specs.Entries.{Entry, Taut, Subsume, Strengthen, Block, Eliminate, Look}
-use Rattle.cp_logic.specs.Legality.{is_chosen, fits, tauts, subsumptions, strengthenings, first_in}
+use Rattle.cp_logic.specs.Legality.{is_chosen, fits, tauts, subsumptions, strengthenings, first_in, first_of_kind}
 use Rattle.cp_logic.proofs.Complete.{nothing-missed}
 use Rattle.cp_logic.proofs.Order.{first-least}
-use Rattle.cp_find.specs.Finds.{first_of_kind}
 use Rattle.cp_find.specs.Laws.{is_taut, is_subsumption, is_strengthening, IsFirst, FirstsAreLeast, FirstsAreLocal}
 use Rattle.cp_find.proofs.Searches.{only, first_in-taut_alone, first_in-subsumption_alone, first_in-strengthening_alone, first_taut-local, first_subsumption-local, first_strengthening-local}
 

@@ -8,10 +8,9 @@ use Rattle.cp_logic.specs.declared.named.Named.{Named}
 use Rattle.cp_logic.specs.declared.settings.Rules.{Rules}
 use Rattle.cp_logic.specs.Formulas.{Formula, occurrences, has_empty}
 use Rattle.cp_logic.specs.Entries.{Entry, Taut, Subsume, Block, is_at}
-use Rattle.cp_logic.specs.Legality.{fits, applies, tauts, subsumptions, strengthening, strengthenings, blocks, elimination, candidates, first_in, first}
+use Rattle.cp_logic.specs.Legality.{fits, applies, tauts, subsumptions, strengthening, strengthenings, blocks, elimination, candidates, first_in, first, first_of_kind}
 use Rattle.cp_logic.proofs.Members.{in_here, in_later, in_cases, none_in, of_map, of_flat_map}
 use Rattle.cp_logic.proofs.Locals.{find_none, first_in-local}
-use Rattle.cp_find.specs.Finds.{first_of_kind}
 
 -- the answer of a kind, where its technique is chosen
 abbrev pub if_chosen : {X : Type 0} → Bool → Option X → Option X

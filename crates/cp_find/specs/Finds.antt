@@ -7,10 +7,6 @@ use Rattle.cp_logic.specs.Clauses.{contains, is_subset}
 use Rattle.cp_logic.specs.Entries.{Entry, is_at}
 use Rattle.cp_logic.specs.Legality.{fits}
 
--- the first of these entries that is at the variable and fits the clauses
-abbrev pub first_of_kind : ℕ → List Named → List Entry → Option Entry
-first_of_kind x cs entries = find (λ e. is_at x e && fits cs 0 e) entries
-
 -- whether the first clause subsumes the second, which is another one
 abbrev pub subsumes : Named → Named → Bool
 subsumes by gone = not (by.number == gone.number) && is_subset by.clause gone.clause

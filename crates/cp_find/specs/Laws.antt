@@ -3,8 +3,7 @@ use Rattle.std.specs.Prelude.{◌≡◌, ◌⊎◌, ℕ, Bool, true, false, Opti
 use Rattle.cp_logic.specs.declared.named.Named.{Named}
 use Rattle.cp_logic.specs.Formulas.{Formula, IsFormula, occurrences}
 use Rattle.cp_logic.specs.Entries.{Entry, Taut, Subsume, Strengthen, is_at}
-use Rattle.cp_logic.specs.Legality.{fits, tauts, subsumptions, strengthenings, rank_of, Precedes}
-use Rattle.cp_find.specs.Finds.{first_of_kind}
+use Rattle.cp_logic.specs.Legality.{fits, tauts, subsumptions, strengthenings, rank_of, Precedes, first_of_kind}
 
 -- whether the entry is of the first kind; of the second; of the third
 abbrev pub is_taut : Entry → Bool

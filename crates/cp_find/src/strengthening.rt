@@ -13,9 +13,9 @@ ghost use Rattle.std.specs.List.{find};
 ghost use Rattle.std.specs.Option.{option_map};
 ghost use Rattle.cp_logic.specs.Items.{named_item};
 ghost use Rattle.cp_logic.specs.Clauses.{contains, is_subset, IsAscending};
-ghost use Rattle.cp_logic.specs.Legality.{strengthenings};
+ghost use Rattle.cp_logic.specs.Legality.{strengthenings, first_of_kind};
 ghost use Rattle.cp_logic.specs.Views.{entry_of};
-ghost use Rattle.cp_find.specs.Finds.{first_of_kind, struck, turned, strengthens};
+ghost use Rattle.cp_find.specs.Finds.{struck, turned, strengthens};
 
 use crate::pairs::named;
 use cp_logic::{Clause, Entry, Lit, Named};

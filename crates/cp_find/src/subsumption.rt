@@ -11,9 +11,9 @@ ghost use Rattle.std.specs.List.{find};
 ghost use Rattle.std.specs.Option.{option_map};
 ghost use Rattle.cp_logic.specs.Items.{named_item};
 ghost use Rattle.cp_logic.specs.Clauses.{is_subset};
-ghost use Rattle.cp_logic.specs.Legality.{subsumptions};
+ghost use Rattle.cp_logic.specs.Legality.{subsumptions, first_of_kind};
 ghost use Rattle.cp_logic.specs.Views.{entry_of};
-ghost use Rattle.cp_find.specs.Finds.{first_of_kind, subsumes};
+ghost use Rattle.cp_find.specs.Finds.{subsumes};
 
 use crate::pairs::named;
 use cp_logic::{Clause, Entry};

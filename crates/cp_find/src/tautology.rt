@@ -5,9 +5,8 @@
 //! each of its variables: the search at any of them finds it.
 ghost use Rattle.std.specs.Prelude.{◌≡◌, ◌≤◌, ◌^◌, IfOk};
 ghost use Rattle.std.specs.Option.{option_map};
-ghost use Rattle.cp_logic.specs.Legality.{tauts};
+ghost use Rattle.cp_logic.specs.Legality.{tauts, first_of_kind};
 ghost use Rattle.cp_logic.specs.Views.{entry_of};
-ghost use Rattle.cp_find.specs.Finds.{first_of_kind};
 
 use crate::pairs::named;
 use cp_logic::Entry;

@@ -7,10 +7,9 @@ use Rattle.cp_logic.specs.declared.named.Named.{Named}
 use Rattle.cp_logic.specs.declared.settings.Rules.{Rules}
 use Rattle.cp_logic.specs.Formulas.{Formula, has_empty}
 use Rattle.cp_logic.specs.Entries.{Entry, Taut, Subsume, Strengthen, Block, Eliminate, Look, is_at, is_look, numbered}
-use Rattle.cp_logic.specs.Legality.{is_chosen, fits, applies, tauts, subsumptions, strengthening, strengthenings, first, first_in, is_legal, is_legal_in}
+use Rattle.cp_logic.specs.Legality.{is_chosen, fits, applies, tauts, subsumptions, strengthening, strengthenings, first, first_in, is_legal, is_legal_in, first_of_kind}
 use Rattle.cp_logic.proofs.Members.{in_here, in_later, of_map, of_flat_map}
 use Rattle.cp_logic.proofs.Complete.{nothing-missed}
-use Rattle.cp_find.specs.Finds.{first_of_kind}
 use Rattle.cp_find.proofs.Searches.{if_chosen, first_in-three}
 use Rattle.cp_book.specs.Kinds.{removes_implied}
 

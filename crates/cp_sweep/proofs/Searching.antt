@@ -4,8 +4,7 @@ use Rattle.std.specs.Option.{option_or}
 use Rattle.cp_logic.specs.declared.named.Named.{Named}
 use Rattle.cp_logic.specs.declared.settings.Rules.{Rules}
 use Rattle.cp_logic.specs.Entries.{Entry}
-use Rattle.cp_logic.specs.Legality.{tauts, subsumptions, strengthenings, first_in}
-use Rattle.cp_find.specs.Finds.{first_of_kind}
+use Rattle.cp_logic.specs.Legality.{tauts, subsumptions, strengthenings, first_in, first_of_kind}
 use Rattle.cp_find.proofs.Searches.{first_in-three}
 use Rattle.cp_sweep.specs.Chosen.{where_chosen}
 

@@ -5,9 +5,8 @@
 
 ghost use Rattle.std.specs.Prelude.{◌≡◌, ◌≤◌, ◌^◌, IfOk, IsFalse};
 ghost use Rattle.std.specs.Option.{option_map};
-ghost use Rattle.cp_logic.specs.Legality.{first_in, tauts, subsumptions, strengthenings};
+ghost use Rattle.cp_logic.specs.Legality.{first_in, tauts, subsumptions, strengthenings, first_of_kind};
 ghost use Rattle.cp_logic.specs.Views.{entry_of};
-ghost use Rattle.cp_find.specs.Finds.{first_of_kind};
 ghost use Rattle.cp_sweep.specs.Chosen.{where_chosen};
 
 use cp_find::{first_strengthened, first_subsumed, first_taut};

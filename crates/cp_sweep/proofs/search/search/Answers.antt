@@ -1,10 +1,9 @@
 use Rattle.std.proofs.Common.{◌≡◌, sym, ◌∙◌, ap}
 use Rattle.std.specs.Option.{option_map}
 use Rattle.std.proofs.lemmas.Result.{IfOk-weaker}
-use Rattle.cp_logic.specs.Legality.{first_in}
+use Rattle.cp_logic.specs.Legality.{first_in, first_of_kind}
 use Rattle.cp_logic.specs.Views.{entry_of}
 use Rattle.cp_logic.specs.Legality.{strengthenings}
-use Rattle.cp_find.specs.Finds.{first_of_kind}
 use Rattle.cp_sweep.specs.Chosen.{where_chosen}
 use Rattle.cp_sweep.proofs.Searching.{first-taut, first-subsumption, first-strengthening}
 use Rattle.cp_sweep.proofs.search.search.Goals as goal
