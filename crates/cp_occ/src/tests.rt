@@ -1,11 +1,11 @@
 //! Each call once with ample memory.
 ghost use Rattle.std.specs.Prelude.{◌≡◌, [], ◌∷◌, IfOk};
 ghost use Rattle.cp_logic.specs.Clauses.{IsAscending};
-ghost use Rattle.cp_logic.specs.Entries.{Strengthen, Block, Eliminate};
+ghost use Rattle.cp_logic.specs.Entries.{Strengthen, Block};
 ghost use Rattle.cp_logic.specs.Views.{entry_of};
 
 use crate::{Cell, Cells, Place};
-use cp_logic::{Clause, Entry, Formula, Lit, Named, NamedList};
+use cp_logic::{Clause, Entry, Formula, Lit, Named};
 use std::alloc::{AllocError, Global};
 use std::test::Fail;
 
@@ -110,29 +110,6 @@ fn blocking(alloc: Global) -> Result<Entry, AllocError>
     })
 }
 
-fn list_of(alloc: Global, named: Named) -> Result<NamedList, AllocError>
-    ensures { IfOk result (λ l. l.items ≡ named ∷ []) }
-{
-    let mut list = NamedList::new(alloc);
-    list.push(named)?;
-    Ok(list)
-}
-
-// The first variable eliminated: the resolvent of its clauses stands under the number 4.
-fn eliminating(alloc: Global) -> Result<Entry, AllocError>
-    ensures { IfOk result (λ e. entry_of e ≡ Eliminate 1 (record { number = 1; clause = 2 ∷ [] } ∷ []) (record { number = 2; clause = 3 ∷ 4 ∷ [] } ∷ []) (record { number = 4; clause = 4 ∷ [] } ∷ [])) }
-{
-    Ok(Entry::Eliminate {
-        var: 1,
-        pos: list_of(alloc, named(alloc, 1, &[Lit::new(1, true)])?)?,
-        neg: list_of(
-            alloc,
-            named(alloc, 2, &[Lit::new(1, false), Lit::new(2, true)])?,
-        )?,
-        new: list_of(alloc, named(alloc, 4, &[Lit::new(2, true)])?)?,
-    })
-}
-
 // Each variable with each number of a clause in its cell.
 fn listed(alloc: Global, cells: &Cells) -> Result<Vec<(u32, u64)>, AllocError> {
     let mut seen = Vec::new(alloc);
@@ -164,18 +141,6 @@ fn a_blocked_clause_leaves_its_cells(rt: HostRuntime) -> Result<(), Fail> {
     let prepared = cells.prepare(rt.alloc(), &entry)?;
     cells.apply(&entry, prepared);
     let expected = [(1, 1), (1, 2), (2, 2)];
-    assert_eq!(rt; listed(rt.alloc(), &cells)?.as_slice(), expected.as_slice());
-    Ok(())
-}
-
-#[test]
-fn an_eliminated_variable_has_an_empty_cell(rt: HostRuntime) -> Result<(), Fail> {
-    let formula = chain(rt.alloc())?;
-    let entry = eliminating(rt.alloc())?;
-    let mut cells = Cells::of_formula(rt.alloc(), &formula)?;
-    let prepared = cells.prepare(rt.alloc(), &entry)?;
-    cells.apply(&entry, prepared);
-    let expected = [(2, 3), (2, 4), (3, 3)];
     assert_eq!(rt; listed(rt.alloc(), &cells)?.as_slice(), expected.as_slice());
     Ok(())
 }
