@@ -1,21 +1,22 @@
 -- Cells are changed, one variable of a clause after the other.
-use Rattle.std.proofs.Common.{◌≡◌, ℕ, zero, suc, ◌+◌, ◌<◌, true, false, not, List, [], ◌∷◌, ◌++◌, length, take, drop, map, set, get_or, refl, sym, ◌∙◌, ap, subst, inl, inr, arith}
+use Rattle.std.proofs.Common.{◌≡◌, ℕ, zero, suc, ◌+◌, ◌<◌, ◌≤◌, Bool, true, false, not, cond, List, [], ◌∷◌, ◌++◌, length, take, drop, map, set, get_or, append_assoc, add-zero, refl, sym, ◌∙◌, ap, subst, inl, inr, arith}
 use Rattle.std.specs.Prelude.{◌==◌, ◌≢◌, ◌-◌, ◌||◌, IsTrue, nat_lt}
-use Rattle.std.specs.List.{All, Contains}
+use Rattle.std.specs.List.{All, Contains, filter}
+use Rattle.std.proofs.Math.Seq.{take-suc}
 use Rattle.std.proofs.lemmas.Bool.{eq-eqb, ne_eqb, eqb-true, ltb-true, false≢true, cases_eq}
-use Rattle.std.proofs.lemmas.List.{append-nil, get_or_default, length-set, get_or-set_same, get_or-set_other}
-use Rattle.std.proofs.lemmas.List.Elements.{All-filter}
+use Rattle.std.proofs.lemmas.List.{append-nil, map-append, length-append, take_all, get_or_default, length-set, get_or-set_same, get_or-set_other}
+use Rattle.std.proofs.lemmas.List.Elements.{All-append, All-contains, All-filter, Contains-append_right, Contains-append_cases, Contains-get_or, filter-append}
 use Rattle.cp_logic.specs.declared.named.Named.{Named}
 use Rattle.cp_logic.specs.Literals.{variable_of}
 use Rattle.cp_logic.specs.Clauses.{contains, has_variable, IsAscending}
 use Rattle.cp_logic.specs.Formulas.{IsWithin, numbers_of, occurrences, without_numbers}
-use Rattle.cp_logic.specs.Entries.{Entry, Strengthen, gone_clauses, new_clauses}
+use Rattle.cp_logic.specs.Entries.{Entry, gone_clauses, new_clauses}
 use Rattle.cp_logic.specs.Locality.{after}
-use Rattle.cp_logic.proofs.Members.{any_member, all_at, contains-in, in_contains, in_here, in_later}
+use Rattle.cp_logic.proofs.Members.{any_member, all_at, contains-in, in_contains, in_here, in_later, in_cases, in_map, none_in, of_filter}
 use Rattle.cp_logic.proofs.Ascending.{below_others}
-use Rattle.cp_logic.proofs.Changes.{without_one}
-use Rattle.cp_occ.specs.Cells.{CellView, variables_after, AreNumbered}
-use Rattle.cp_occ.specs.Changes.{Each, IsRoomier, IsWithout, IsWith}
+use Rattle.cp_logic.proofs.Changes.{without_one, without_none, without_both}
+use Rattle.cp_occ.specs.Cells.{CellView, variables_after, AreNumbered, variables_of, lists_of}
+use Rattle.cp_occ.specs.Changes.{Each, IsRoomier, IsWithout, IsWith, IsChanged, lists_after}
 use Rattle.cp_occ.proofs.Numbered.{without-absent}
 use Rattle.cp_occ.proofs.Entered.{contains-after, rising-after, without-it, with-it, false-from, lent-back}
 
@@ -114,32 +115,42 @@ Going-end P clause old cells s = record { len = s.len; at = λ k d h. s.done k d
 
 -- ---- cells of no variable of the clause
 
-pub same-room : (clause : List ℕ) (c : CellView) → has_variable c.variable clause ≡ false → IsRoomier clause c c
-same-room clause c f = record { variable = refl; clauses = refl; room = λ t. absurd (false≢true (sym f ∙ t)) }
+pub same-room : (n : ℕ) (added : Named) (c : CellView) → has_variable c.variable added.clause ≡ false → IsRoomier n (added ∷ []) c c
+same-room n added c f = record {
+  variable = refl;
+  clauses = refl;
+  more = omega arith;
+  room = λ d i t. elim (in_cases d added [] i) [
+    | inl e ↦ absurd (false≢true (sym f ∙ subst (λ (z : Named). has_variable c.variable z.clause ≡ true) (sym e) t))
+    | inr z ↦ absurd (none_in d z)
+  ];
+}
 
 pub same-without : (gone : Named) (c : CellView) → All (λ (n : Named). n.number ≡ gone.number → IsTrue (has_variable c.variable gone.clause)) c.clauses → has_variable c.variable gone.clause ≡ false
-    → IsWithout gone c c
+    → IsWithout (gone ∷ []) c c
 same-without gone c named f = record {
   variable = refl;
-  clauses = sym (without-absent c.clauses gone.number (λ k d h e. false≢true (sym f ∙ named k d h e)));
+  clauses = sym (without-absent c.clauses gone.number (λ k d h e. false≢true (sym f ∙ named k d h e))) ∙ without_one c.clauses gone.number;
   spare = omega arith;
 }
 
-pub same-with : (added : Named) (c : CellView) → has_variable c.variable added.clause ≡ false → IsWith added c c
+pub same-with : (added : Named) (c : CellView) → has_variable c.variable added.clause ≡ false → IsWith (added ∷ []) c c
 same-with added c f = record {
   variable = refl;
   clauses = sym (ap (λ (ns : List Named). c.clauses ++ ns) (without-it added c.variable f) ∙ append-nil c.clauses);
+  spare = ap (λ (ns : List Named). c.spare + length ns) (without-it added c.variable f) ∙ add-zero c.spare;
 }
 
 -- ---- a cell of a variable of the clause
 
 pub one-with : (added : Named) (c e : CellView) (place : List ℕ) → has_variable c.variable added.clause ≡ true → place ≡ added.clause → e.variable ≡ c.variable
-    → e.clauses ≡ c.clauses ++ record { number = added.number; clause = place } ∷ [] → IsWith added c e
-one-with added c e place has same variable clauses = record {
+    → e.clauses ≡ c.clauses ++ record { number = added.number; clause = place } ∷ [] → e.spare + 1 ≡ c.spare → IsWith (added ∷ []) c e
+one-with added c e place has same variable clauses spare = record {
   variable = variable;
   clauses =
       clauses ∙ ap (λ (ls : List ℕ). c.clauses ++ record { number = added.number; clause = ls } ∷ []) same
       ∙ ap (λ (ns : List Named). c.clauses ++ ns) (sym (with-it added c.variable has));
+  spare = ap (λ (ns : List Named). e.spare + length ns) (with-it added c.variable has) ∙ spare;
 }
 
 -- ---- places of one clause
@@ -156,6 +167,14 @@ last-place clause v (w ∷ left) (f ∷ fs) place e =
     let first : f ≡ clause = cc in
     let more = last-place clause w left fs place rest in
     (more.0, let m : fs ≡ map (λ w. clause) left = more.1 in cc)
+
+-- the places of one clause more
+pub places-more : (f : Named → List (List ℕ)) (all : List Named) (i : ℕ) (c : Named) (old new : List (List (List ℕ))) (place : List (List ℕ)) → i < length all → get_or all i c ≡ c
+    → old ≡ map f (take i all) → place ≡ f c → new ≡ old ++ place ∷ [] → new ≡ map f (take (i + 1) all)
+places-more f all i c old new place h is before here pushed =
+    let e : i + 1 ≡ suc i = omega arith in
+    pushed ∙ ap (λ (ps : List (List (List ℕ))). ps ++ place ∷ []) before ∙ ap (λ (p : List (List ℕ)). map f (take i all) ++ p ∷ []) here ∙ sym (map-append f (take i all) (c ∷ []))
+    ∙ ap (map f) (sym (ap (λ m. take m all) e ∙ take-suc all i c h ∙ ap (λ (x : Named). take i all ++ x ∷ []) is))
 
 -- ---- lists of cells
 
@@ -179,15 +198,6 @@ Each-then P Q R old mid new joined p q =
       at = λ k d h. joined (get_or old k d) (get_or mid k d) (get_or new k d) (p.at k d h) (q.at k d (omega arith));
     }
 
--- numbers that were below one still are, where a clause is gone
-pub above-without : (gone : Named) (n : ℕ) (old new : List CellView) → Each (IsWithout gone) old new → All (λ (x : CellView). All (λ (c : Named). c.number < n) x.clauses) old
-    → All (λ (x : CellView). All (λ (c : Named). c.number < n) x.clauses) new
-above-without gone n old new e above k d h =
-    let l : length new ≡ length old = e.len in
-    let here = e.at k d (omega arith) in
-    subst (All (λ (c : Named). c.number < n)) (sym here.clauses)
-    (All-filter (λ (c : Named). not (c.number == gone.number)) (λ (c : Named). c.number < n) (get_or old k d).clauses (above k d (omega arith)))
-
 -- cells of a list that was lent whole, of so many, and came back
 pub Each-back : (P : CellView → CellView → Type 0) (n : ℕ) (items slice new : List CellView) → slice ≡ items → length slice ≡ n → Each P slice new → Each P items (take n (new ++ drop (length new) items))
 Each-back P n items slice new same len e =
@@ -195,27 +205,220 @@ Each-back P n items slice new same len e =
     let m : length slice ≡ length items = ap length same in
     subst (Each P items) (sym (lent-back n items new (omega arith) (omega arith))) (subst (λ (xs : List CellView). Each P xs new) same e)
 
--- ---- what the cells list after an entry
+-- ---- one clause of a list after the other
 
-pub record IsChanged (e : Entry) (old new : CellView) : Type 0 where
-  pub variable : new.variable ≡ old.variable
-  pub clauses : new.clauses ≡ after old.clauses old.variable e
+-- no clause yet
+pub none-roomier : (n : ℕ) (c : CellView) → IsRoomier n [] c c
+none-roomier n c = record { variable = refl; clauses = refl; more = omega arith; room = λ d i t. absurd (none_in d i) }
 
--- a clause is gone
-pub changed-without : (e : Entry) (gone : Named) (a b : CellView) → gone_clauses e ≡ gone ∷ [] → new_clauses e ≡ [] → IsWithout gone a b → IsChanged e a b
-changed-without e gone a b g n w = record {
-  variable = w.variable;
-  clauses =
-      w.clauses ∙ without_one a.clauses gone.number ∙ sym (append-nil (without_numbers a.clauses (gone.number ∷ [])))
-      ∙ ap (λ (gs : List Named). without_numbers a.clauses (numbers_of gs) ++ []) (sym g)
-      ∙ ap (λ (ns : List Named). without_numbers a.clauses (numbers_of (gone_clauses e)) ++ occurrences ns a.variable) (sym n);
+pub none-without : (c : CellView) → IsWithout [] c c
+none-without c = record { variable = refl; clauses = sym (without_none c.clauses); spare = omega arith }
+
+pub none-with : (c : CellView) → IsWith [] c c
+none-with c = record { variable = refl; clauses = sym (append-nil c.clauses); spare = add-zero c.spare }
+
+-- these, and then more
+pub roomier-then : (n : ℕ) (done more : List Named) (a b c : CellView) → IsRoomier n done a b → IsRoomier n more b c → IsRoomier n (done ++ more) a c
+roomier-then n done more a b c p q = record {
+  variable = q.variable ∙ p.variable;
+  clauses = q.clauses ∙ p.clauses;
+  more = let x : a.spare ≤ b.spare = p.more in let y : b.spare ≤ c.spare = q.more in omega arith;
+  room = λ d i t. elim (Contains-append_cases done more d i) [
+    | inl j ↦ let x : n ≤ b.spare = p.room d j t in let y : b.spare ≤ c.spare = q.more in omega arith
+    | inr j ↦ q.room d j (subst (λ v. has_variable v d.clause ≡ true) (sym p.variable) t)
+  ];
 }
 
--- a clause is gone, and another has come
-pub changed-with : (by on new : Named) (l : ℕ) (a b c : CellView) → IsWithout on a b → IsWith new b c → IsChanged (Strengthen by on l new) a c
-changed-with by on new l a b c w i = record {
+pub without-then : (done more : List Named) (a b c : CellView) → IsWithout done a b → IsWithout more b c → IsWithout (done ++ more) a c
+without-then done more a b c p q = record {
+  variable = q.variable ∙ p.variable;
+  clauses =
+      q.clauses ∙ ap (λ (cs : List Named). without_numbers cs (numbers_of more)) p.clauses
+      ∙ without_both a.clauses (numbers_of done) (numbers_of more)
+      ∙ ap (without_numbers a.clauses) (sym (map-append (λ (n : Named). n.number) done more));
+  spare = let x : a.spare ≤ b.spare = p.spare in let y : b.spare ≤ c.spare = q.spare in omega arith;
+}
+
+occurrences-append : (done more : List Named) (x : ℕ) → occurrences (done ++ more) x ≡ occurrences done x ++ occurrences more x
+occurrences-append done more x = filter-append (λ (n : Named). has_variable x n.clause) done more
+
+many-append : (done more : List Named) (x : ℕ) → length (occurrences (done ++ more) x) ≡ length (occurrences done x) + length (occurrences more x)
+many-append done more x = ap length (occurrences-append done more x) ∙ length-append (occurrences done x) (occurrences more x)
+
+pub with-then : (done more : List Named) (a b c : CellView) → IsWith done a b → IsWith more b c → IsWith (done ++ more) a c
+with-then done more a b c p q =
+    let same : occurrences more b.variable ≡ occurrences more a.variable = ap (occurrences more) p.variable in
+    record {
+      variable = q.variable ∙ p.variable;
+      clauses =
+          q.clauses ∙ ap (λ (cs : List Named). cs ++ occurrences more b.variable) p.clauses
+          ∙ ap (λ (cs : List Named). (a.clauses ++ occurrences done a.variable) ++ cs) same
+          ∙ append_assoc a.clauses (occurrences done a.variable) (occurrences more a.variable)
+          ∙ ap (λ (cs : List Named). a.clauses ++ cs) (sym (occurrences-append done more a.variable));
+      spare =
+          let all = many-append done more a.variable in
+          let first : b.spare + length (occurrences done a.variable) ≡ a.spare = p.spare in
+          let second : c.spare + length (occurrences more a.variable) ≡ b.spare = ap (λ (cs : List Named). c.spare + length cs) (sym same) ∙ q.spare in
+          omega arith;
+    }
+
+-- the clauses that go are gone, and then the new ones have come
+pub changed-by : (gone added : List Named) (a b c : CellView) → IsWithout gone a b → IsWith added b c → IsChanged gone added a c
+changed-by gone added a b c w i = record {
   variable = i.variable ∙ w.variable;
   clauses =
-      i.clauses ∙ ap (λ (cs : List Named). cs ++ occurrences (new ∷ []) b.variable) (w.clauses ∙ without_one a.clauses on.number)
-      ∙ ap (λ x. without_numbers a.clauses (on.number ∷ []) ++ occurrences (new ∷ []) x) w.variable;
+      i.clauses ∙ ap (λ (cs : List Named). cs ++ occurrences added b.variable) w.clauses
+      ∙ ap (λ x. without_numbers a.clauses (numbers_of gone) ++ occurrences added x) w.variable;
 }
+
+module _ (R : List Named → CellView → CellView → Type 0) where
+  pub Each-start : ((c : CellView) → R [] c c) → (old : List CellView) → Each (R []) old old
+  Each-start same old = record { len = refl; at = λ k d h. same (get_or old k d) }
+
+  pub Each-more : ((done more : List Named) (a b c : CellView) → R done a b → R more b c → R (done ++ more) a c)
+      → (all : List Named) (i : ℕ) (c : Named) (old cells new : List CellView) → i < length all → get_or all i c ≡ c
+      → Each (R (take i all)) old cells → Each (R (c ∷ [])) cells new → Each (R (take (i + 1) all)) old new
+  Each-more joined all i c old cells new h is p q =
+      subst (λ (cs : List Named). Each (R cs) old new) (sym (let e : i + 1 ≡ suc i = omega arith in ap (λ m. take m all) e ∙ take-suc all i c h ∙ ap (λ (x : Named). take i all ++ x ∷ []) is))
+      (Each-then (R (take i all)) (R (c ∷ [])) (R (take i all ++ c ∷ [])) old cells new (joined (take i all) (c ∷ [])) p q)
+
+  pub Each-all : (all : List Named) (i : ℕ) (old cells : List CellView) → length all ≤ i → Each (R (take i all)) old cells → Each (R all) old cells
+  Each-all all i old cells h p = subst (λ (cs : List Named). Each (R cs) old cells) (take_all i all h) p
+
+-- the cells stay those of their variables
+pub numbered-kept : (P : CellView → CellView → Type 0) (old new : List CellView) → ((a b : CellView) → P a b → b.variable ≡ a.variable) → AreNumbered old → Each P old new → AreNumbered new
+numbered-kept P old new same n e k d h =
+    let l : length new ≡ length old = e.len in
+    same (get_or old k d) (get_or new k d) (e.at k d (omega arith)) ∙ n k d (omega arith)
+
+-- what held of the clauses of each cell still does where clauses are gone
+pub kept-without : (P : ℕ → Named → Type 0) (gone : List Named) (old new : List CellView) → Each (IsWithout gone) old new → All (λ (x : CellView). All (P x.variable) x.clauses) old
+    → All (λ (x : CellView). All (P x.variable) x.clauses) new
+kept-without P gone old new e held k d h =
+    let l : length new ≡ length old = e.len in
+    let here = e.at k d (omega arith) in
+    subst (λ x. All (P x) (get_or new k d).clauses) (sym here.variable)
+    (subst (All (P (get_or old k d).variable)) (sym here.clauses)
+    (All-filter (λ (c : Named). not (contains (numbers_of gone) c.number)) (P (get_or old k d).variable) (get_or old k d).clauses (held k d (omega arith))))
+
+-- what stands under the number of one of the clauses still is of that clause's variables
+pub named-one : (all : List Named) (i : ℕ) (g : Named) (old cells : List CellView) → i < length all → get_or all i g ≡ g → Each (IsWithout (take i all)) old cells
+    → All (λ (x : CellView). All (λ (c : Named). All (λ (g : Named). c.number ≡ g.number → IsTrue (has_variable x.variable g.clause)) all) x.clauses) old
+    → All (λ (x : CellView). All (λ (c : Named). c.number ≡ g.number → IsTrue (has_variable x.variable g.clause)) x.clauses) cells
+named-one all i g old cells h is e named =
+    kept-without (λ v c. c.number ≡ g.number → IsTrue (has_variable v g.clause)) (take i all) old cells e
+    (λ k d l j c m. subst (λ (z : Named). (get_or (get_or old k d).clauses j c).number ≡ z.number → IsTrue (has_variable (get_or old k d).variable z.clause)) is (named k d l j c m i g h))
+
+-- the clauses before one in a list have lesser numbers
+before-one : (all : List Named) (i : ℕ) (d c : Named) → IsAscending (numbers_of all) → i < length all → Contains (take i all) c → c.number < (get_or all i d).number
+before-one [] i d c a h j = absurd (omega arith)
+before-one (b ∷ bs) zero d c a h j = absurd (none_in c j)
+before-one (b ∷ bs) (suc i) d c a h j = elim (in_cases c b (take i bs) j) [
+  | inl e ↦
+      subst (λ (z : Named). z.number < (get_or bs i d).number) e
+      (below_others b.number (numbers_of bs) (get_or bs i d).number a (in_map (λ (z : Named). z.number) bs (get_or bs i d) (Contains-get_or bs i d (omega arith))))
+  | inr m ↦ before-one bs i d c a.1 (omega arith) m
+]
+
+-- the list goes on with the clause at the index
+take-drop : (all : List Named) (i : ℕ) (d : Named) → i < length all → all ≡ take i all ++ get_or all i d ∷ drop (suc i) all
+take-drop [] i d h = absurd (omega arith)
+take-drop (c ∷ cs) zero d h = refl
+take-drop (c ∷ cs) (suc i) d h = ap (λ (xs : List Named). c ∷ xs) (take-drop cs i d (omega arith))
+
+-- the new clauses up to one have come
+module _ (all : List Named) (i : ℕ) (c : Named) (old cells : List CellView) (h : i < length all) (is : get_or all i c ≡ c) (e : Each (IsWith (take i all)) old cells) where
+  -- the numbers in the cells are below its own
+  pub above-kept : IsAscending (numbers_of all) → All (λ (x : CellView). All (λ (m : Named). All (λ (n : Named). m.number < n.number) all) x.clauses) old
+      → All (λ (x : CellView). All (λ (m : Named). m.number < c.number) x.clauses) cells
+  above-kept rising above k d l =
+      let same : length cells ≡ length old = e.len in
+      let here = e.at k d (omega arith) in
+      let came = occurrences (take i all) (get_or old k d).variable in
+      subst (All (λ (m : Named). m.number < c.number)) (sym here.clauses)
+      (All-append (λ (m : Named). m.number < c.number) (get_or old k d).clauses came
+      (λ j m q. subst (λ (z : Named). (get_or (get_or old k d).clauses j m).number < z.number) is (above k d (omega arith) j m q i c h))
+      (λ j m q. subst (λ (z : Named). (get_or came j m).number < z.number) is
+      (before-one all i c (get_or came j m) rising h
+      (of_filter (λ (n : Named). has_variable (get_or old k d).variable n.clause) (take i all) (get_or came j m) (Contains-get_or came j m q)).0)))
+
+  -- and the cells of its variables have room for it
+  pub room-left : All (λ (x : CellView). length (occurrences all x.variable) ≤ x.spare) old → All (λ (x : CellView). IsTrue (has_variable x.variable c.clause) → 0 < x.spare) cells
+  room-left room k d l t =
+      let same : length cells ≡ length old = e.len in
+      let here = e.at k d (omega arith) in
+      let x = (get_or old k d).variable in
+      let has : has_variable x c.clause ≡ true = subst (λ v. has_variable v c.clause ≡ true) here.variable t in
+      let enough : length (occurrences all x) ≤ (get_or old k d).spare = room k d (omega arith) in
+      let left : (get_or cells k d).spare + length (occurrences (take i all) x) ≡ (get_or old k d).spare = here.spare in
+      let whole : length (occurrences all x) ≡ length (occurrences (take i all) x) + length (occurrences (c ∷ drop (suc i) all) x) =
+      ap (λ (cs : List Named). length (occurrences cs x)) (take-drop all i c h ∙ ap (λ (z : Named). take i all ++ z ∷ drop (suc i) all) is) ∙ many-append (take i all) (c ∷ drop (suc i) all) x in
+      let some : length (occurrences (c ∷ drop (suc i) all) x) ≡ suc (length (occurrences (drop (suc i) all) x)) =
+      ap (λ b. length (cond b (c ∷ occurrences (drop (suc i) all) x) (occurrences (drop (suc i) all) x))) has in
+      omega arith
+
+fewer : (p : Named → Bool) (xs : List Named) → length (filter p xs) ≤ length xs
+fewer p [] = omega arith
+fewer p (x ∷ xs) = go (p x) (fewer p xs)
+  where
+    go : (b : Bool) → length (filter p xs) ≤ length xs → length (cond b (x ∷ filter p xs) (filter p xs)) ≤ suc (length xs)
+    go true h = omega arith
+    go false h = omega arith
+
+-- room for as many as there are clauses is enough
+enough-room : (all : List Named) (a b : CellView) → IsRoomier (length all) all a b → length (occurrences all b.variable) ≤ b.spare
+enough-room all a b r = go (occurrences all b.variable) refl
+  where
+    go : (found : List Named) → occurrences all b.variable ≡ found → length (occurrences all b.variable) ≤ b.spare
+    go [] s = let none : length (occurrences all b.variable) ≡ 0 = ap length s in omega arith
+    go (c ∷ cs) s =
+        let m = of_filter (λ (n : Named). has_variable b.variable n.clause) all c (subst (λ (ns : List Named). Contains ns c) (sym s) (in_here c c cs refl)) in
+        let enough : length all ≤ b.spare = r.room c m.0 (subst (λ v. has_variable v c.clause ≡ true) r.variable m.1) in
+        let few : length (occurrences all b.variable) ≤ length all = fewer (λ (n : Named). has_variable b.variable n.clause) all in
+        omega arith
+
+pub room-for_all : (all : List Named) (old cells : List CellView) → Each (IsRoomier (length all) all) old cells → All (λ (x : CellView). length (occurrences all x.variable) ≤ x.spare) cells
+room-for_all all old cells e k d h =
+    let same : length cells ≡ length old = e.len in
+    enough-room all (get_or old k d) (get_or cells k d) (e.at k d (omega arith))
+
+-- ---- an entry
+
+part-right : (P : Named → Type 0) (xs ys : List Named) → All P (xs ++ ys) → All P ys
+part-right P xs ys held k d h = All-contains P (xs ++ ys) (get_or ys k d) held (Contains-append_right xs ys (get_or ys k d) (Contains-get_or ys k d h))
+
+-- where the first part is gone, the second part is as it was
+pub within-second : (first second : List Named) (n m : ℕ) → m ≡ n → All (λ (c : Named). IsWithin n c.clause) (first ++ second) → All (λ (c : Named). IsWithin m c.clause) second
+within-second first second n m e held = subst (λ k. All (λ (c : Named). IsWithin k c.clause) second) (sym e) (part-right (λ (c : Named). IsWithin n c.clause) first second held)
+
+pub named-second : (first second : List Named) (old mid : List CellView) → Each (IsWithout first) old mid
+    → All (λ (x : CellView). All (λ (c : Named). All (λ (g : Named). c.number ≡ g.number → IsTrue (has_variable x.variable g.clause)) (first ++ second)) x.clauses) old
+    → All (λ (x : CellView). All (λ (c : Named). All (λ (g : Named). c.number ≡ g.number → IsTrue (has_variable x.variable g.clause)) second) x.clauses) mid
+named-second first second old mid e named =
+    kept-without (λ v c. All (λ (g : Named). c.number ≡ g.number → IsTrue (has_variable v g.clause)) second) first old mid e
+    (λ k d h j c l. part-right (λ (g : Named). (get_or (get_or old k d).clauses j c).number ≡ g.number → IsTrue (has_variable (get_or old k d).variable g.clause)) first second (named k d h j c l))
+
+pub above-second : (first second added : List Named) (old mid new : List CellView) → Each (IsWithout first) old mid → Each (IsWithout second) mid new
+    → All (λ (x : CellView). All (λ (c : Named). All (λ (n : Named). c.number < n.number) added) x.clauses) old → All (λ (x : CellView). All (λ (c : Named). All (λ (n : Named). c.number < n.number) added) x.clauses) new
+above-second first second added old mid new p q above =
+    kept-without (λ v c. All (λ (n : Named). c.number < n.number) added) second mid new q
+    (kept-without (λ v c. All (λ (n : Named). c.number < n.number) added) first old mid p above)
+
+pub changed-all : (first second added : List Named) (old mid left new : List CellView) → Each (IsWithout first) old mid → Each (IsWithout second) mid left → Each (IsWith added) left new
+    → Each (IsChanged (first ++ second) added) old new
+changed-all first second added old mid left new p q r =
+    Each-then (IsWithout (first ++ second)) (IsWith added) (IsChanged (first ++ second) added) old left new (changed-by (first ++ second) added)
+    (Each-then (IsWithout first) (IsWithout second) (IsWithout (first ++ second)) old mid left (without-then first second) p q) r
+
+-- what the cells are and list after the entry whose clauses these are
+pub changed-cells : (e : Entry) (gone added : List Named) (n : ℕ) (items slice new : List CellView) → gone ≡ gone_clauses e → added ≡ new_clauses e → slice ≡ items → length slice ≡ n
+    → Each (IsChanged gone added) slice new
+    → (variables_of (take n (new ++ drop (length new) items)) ≡ variables_of items) × (lists_of (take n (new ++ drop (length new) items)) ≡ lists_after items e)
+changed-cells e gone added n items slice new g a same len c =
+    let back = Each-back (IsChanged gone added) n items slice new same len c in
+    let last = take n (new ++ drop (length new) items) in (
+      Each-map (IsChanged gone added) (λ x. x.variable) (λ x. x.variable) items last (λ x y w. w.variable) back,
+      Each-map (IsChanged gone added) (λ x. x.clauses) (λ x. after x.clauses x.variable e) items last
+          (λ x y w. w.clauses ∙ ap (λ (gs : List Named). without_numbers x.clauses (numbers_of gs) ++ occurrences added x.variable) g
+          ∙ ap (λ (ns : List Named). without_numbers x.clauses (numbers_of (gone_clauses e)) ++ occurrences ns x.variable) a) back,
+    )

@@ -1,29 +1,31 @@
 -- The cells of a formula, when a legal entry is posted.
-use Rattle.std.proofs.Common.{◌≡◌, ℕ, zero, ◌+◌, ◌<◌, ◌≤◌, Bool, true, false, cond, List, [], ◌∷◌, length, map, get_or, refl, sym, ◌∙◌, ap, subst, inl, inr, arith}
+use Rattle.std.proofs.Common.{◌≡◌, ℕ, zero, suc, ◌+◌, ◌<◌, ◌≤◌, Bool, true, false, cond, List, [], ◌∷◌, length, map, get_or, refl, sym, ◌∙◌, ap, subst, inl, inr, arith}
 use Rattle.std.specs.List.{All, Contains, range_with_len}
-use Rattle.std.proofs.lemmas.Bool.{false≢true}
 use Rattle.std.proofs.lemmas.List.{get_or-map, map-id, length-map}
-use Rattle.std.proofs.lemmas.List.Elements.{Contains-get_or, All-push}
+use Rattle.std.proofs.lemmas.List.Elements.{Contains-get_or, All-append, All-push}
 use Rattle.std.proofs.lemmas.List.FromFn.{get_or-map-range_with_len, length-range_with_len}
 use Rattle.cp_logic.specs.declared.named.Named.{Named}
 use Rattle.cp_logic.specs.declared.settings.Rules.{Rules}
-use Rattle.cp_logic.specs.Clauses.{has_variable, without}
-use Rattle.cp_logic.specs.Formulas.{Formula, IsFormula, IsWithin, occurrences}
+use Rattle.cp_logic.specs.Literals.{negated, positive}
+use Rattle.cp_logic.specs.Clauses.{has_variable, without, resolvent, IsAscending}
+use Rattle.cp_logic.specs.Formulas.{Formula, IsFormula, IsWithin, numbers_of, occurrences}
 use Rattle.cp_logic.specs.Rules.{state_after}
-use Rattle.cp_logic.specs.Entries.{Entry, Taut, Subsume, Strengthen, Block, Eliminate, Look, expand, numbered, gone_clauses, new_clauses}
+use Rattle.cp_logic.specs.Entries.{Entry, Taut, Subsume, Strengthen, Block, Eliminate, Look, expand, numbered, renumbered, gone_clauses, new_clauses}
 use Rattle.cp_logic.specs.Legality.{is_legal_in, is_legal}
 use Rattle.cp_logic.specs.Journals.{start_of}
 use Rattle.cp_logic.specs.Locality.{after}
-use Rattle.cp_logic.proofs.Members.{none_in, in_cases, of_filter}
-use Rattle.cp_logic.proofs.Ascending.{same_number}
-use Rattle.cp_logic.proofs.SetFacts.{of_without}
-use Rattle.cp_logic.proofs.Parts.{taut-parts, subsume-parts, strengthen-parts}
+use Rattle.cp_logic.proofs.Members.{none_in, in_cases, of_filter, of_map}
+use Rattle.cp_logic.proofs.Ascending.{same_number, IsAscending-cons}
+use Rattle.cp_logic.proofs.SetFacts.{of_without, of_resolvent}
+use Rattle.cp_logic.proofs.Parts.{strengthen-parts, eliminate-parts}
+use Rattle.cp_logic.proofs.Eliminations.{eliminate-numbered, of_pos, of_neg, of_new}
 use Rattle.cp_logic.proofs.Expansions.{within_at, below_at, within_smaller, variable_within, strengthen-number}
 use Rattle.cp_logic.proofs.EntryRuns.{legal-in}
+use Rattle.cp_logic.proofs.Others.{gone-stands}
 use Rattle.cp_logic.proofs.Runs.{variables-state_after}
-use Rattle.cp_logic.proofs.Changes.{change-local}
-use Rattle.cp_occ.specs.Cells.{CellView, AreNumbered, variables_of, lists_of}
-use Rattle.cp_occ.specs.Changes.{replaces_one, places_of, HasRoom, IsChange, lists_after, AreCellsOf}
+use Rattle.cp_logic.proofs.Changes.{change-local, renumbered-from}
+use Rattle.cp_occ.specs.Cells.{CellView, variables_after, AreNumbered, variables_of, lists_of}
+use Rattle.cp_occ.specs.Changes.{places_of, HasRoom, IsChange, lists_after, AreCellsOf}
 use Rattle.cp_occ.proofs.Entered.{map-by_position}
 
 -- ---- the cells of a formula, by position
@@ -72,52 +74,77 @@ one P c d i p = elim (in_cases d c [] i) [ inl e ↦ subst P e p | inr z ↦ abs
 without-within : (variables : ℕ) (clause : List ℕ) (l : ℕ) → IsWithin variables clause → IsWithin variables (without clause l)
 without-within variables clause l w = within_smaller variables (without clause l) (λ m i. variable_within variables clause m w (of_without clause l m i).0)
 
-replaces-in : (f : Formula) (rules : Rules) (e : Entry) → IsFormula f → is_legal_in f.clauses rules e ≡ true → replaces_one e ≡ true → Replaces f e
+resolvent-within : (variables l : ℕ) (first second : List ℕ) → IsWithin variables first → IsWithin variables second → IsWithin variables (resolvent l first second)
+resolvent-within variables l first second v w = within_smaller variables (resolvent l first second) (λ m i. elim (of_resolvent l first second m i) [
+  | inl j ↦ variable_within variables first m v (of_without first l m j).0
+  | inr j ↦ variable_within variables second m w (of_without second (negated l) m j).0
+])
+
+within-in : (f : Formula) (rules : Rules) (e : Entry) → IsFormula f → is_legal_in f.clauses rules e ≡ true → (n : Named) → Contains (new_clauses e) n → IsWithin f.variables n.clause
 unfolding is_legal_in
-replaces-in f rules (Taut gone) v h k =
-    let p = taut-parts f.clauses rules gone h in
-    record { gone_in = λ g i. one (Contains f.clauses) gone g i p.in_place; new_within = λ n i. absurd (none_in n i) }
-replaces-in f rules (Subsume by gone) v h k =
-    let p = subsume-parts f.clauses rules by gone h in
-    record { gone_in = λ g i. one (Contains f.clauses) gone g i p.gone_in; new_within = λ n i. absurd (none_in n i) }
-replaces-in f rules (Strengthen by on l new) v h k =
+within-in f rules (Taut gone) v h n i = absurd (none_in n i)
+within-in f rules (Subsume by gone) v h n i = absurd (none_in n i)
+within-in f rules (Strengthen by on l new) v h n i =
     let p = strengthen-parts f.clauses rules by on l new h in
-    record {
-      gone_in = λ g i. one (Contains f.clauses) on g i p.on_in;
-      new_within = λ n i. one (λ c. IsWithin f.variables c.clause) new n i (subst (IsWithin f.variables) (sym p.is_new) (without-within f.variables on.clause l (within_at f on v p.on_in)));
-    }
-replaces-in f rules (Block gone l) v h k = absurd (false≢true k)
-replaces-in f rules (Eliminate x pos neg new) v h k = absurd (false≢true k)
-replaces-in f rules (Look x) v h k = absurd (false≢true k)
+    one (λ c. IsWithin f.variables c.clause) new n i (subst (IsWithin f.variables) (sym p.is_new) (without-within f.variables on.clause l (within_at f on v p.on_in)))
+within-in f rules (Block gone l) v h n i = absurd (none_in n i)
+within-in f rules (Eliminate x pos neg new) v h n i =
+    let p = eliminate-parts f.clauses rules x pos neg new h in
+    let r = of_new (start_of f) v rules.bound x pos neg new p n i in
+    subst (IsWithin f.variables) r.4
+    (resolvent-within f.variables (positive x) r.0.clause r.1.clause
+    (within_at f r.0 v (of_pos (start_of f) v rules.bound x pos neg new p r.0 r.2).0)
+    (within_at f r.1 v (of_neg (start_of f) v rules.bound x pos neg new p r.1 r.3).0))
+within-in f rules (Look x) v h n i = absurd (none_in n i)
 
-pub legal-replaces : (f : Formula) (rules : Rules) (e : Entry) → IsFormula f → is_legal f rules e ≡ true → replaces_one e ≡ true → Replaces f e
-legal-replaces f rules e v h k = replaces-in f rules e v (legal-in f rules e h) k
+pub legal-replaces : (f : Formula) (rules : Rules) (e : Entry) → IsFormula f → is_legal f rules e ≡ true → Replaces f e
+legal-replaces f rules e v h = record {
+  gone_in = gone-stands f (start_of f) rules e refl v (legal-in f rules e h);
+  new_within = within-in f rules e v (legal-in f rules e h);
+}
 
--- the new clause has the next number
-new-number : (next : ℕ) (e : Entry) → replaces_one e ≡ true → e ≡ numbered next e → (n : Named) → Contains (new_clauses e) n → n.number ≡ next
-new-number next (Taut gone) k e n i = absurd (none_in n i)
-new-number next (Subsume by gone) k e n i = absurd (none_in n i)
-new-number next (Strengthen by on l new) k e n i = one (λ c. c.number ≡ next) new n i (strengthen-number next by on l new e)
-new-number next (Block gone l) k e n i = absurd (false≢true k)
-new-number next (Eliminate x pos neg new) k e n i = absurd (false≢true k)
-new-number next (Look x) k e n i = absurd (false≢true k)
+-- the new clauses have the next numbers
+new-numbers : (next : ℕ) (e : Entry) → e ≡ numbered next e → (n : Named) → Contains (new_clauses e) n → next ≤ n.number
+new-numbers next (Taut gone) e n i = absurd (none_in n i)
+new-numbers next (Subsume by gone) e n i = absurd (none_in n i)
+new-numbers next (Strengthen by on l new) e n i =
+    one (λ c. next ≤ c.number) new n i (let q : new.number ≡ next = strengthen-number next by on l new e in omega arith)
+new-numbers next (Block gone l) e n i = absurd (none_in n i)
+new-numbers next (Eliminate x pos neg new) e n i = renumbered-from next new n (subst (λ z. Contains z n) (eliminate-numbered next x pos neg new e) i)
+new-numbers next (Look x) e n i = absurd (none_in n i)
+
+renumbered-rise : (n : ℕ) (cs : List Named) → IsAscending (numbers_of (renumbered n cs))
+renumbered-rise n [] = tt
+renumbered-rise n (c ∷ cs) =
+    IsAscending-cons n (numbers_of (renumbered (n + 1) cs))
+    (λ y i.
+    let d = of_map (λ (z : Named). z.number) (renumbered (n + 1) cs) y i in
+    let low : n + 1 ≤ d.0.number = renumbered-from (n + 1) cs d.0 d.1 in
+    subst (λ m. n < m) d.2 (omega arith))
+    (renumbered-rise (n + 1) cs)
+
+new-rise : (next : ℕ) (e : Entry) → e ≡ numbered next e → IsAscending (numbers_of (new_clauses e))
+new-rise next (Taut gone) e = tt
+new-rise next (Subsume by gone) e = tt
+new-rise next (Strengthen by on l new) e = (refl, tt)
+new-rise next (Block gone l) e = tt
+new-rise next (Eliminate x pos neg new) e = subst (λ (cs : List Named). IsAscending (numbers_of cs)) (sym (eliminate-numbered next x pos neg new e)) (renumbered-rise next new)
+new-rise next (Look x) e = tt
 
 -- what `prepare` requires of the new clauses
-pub new-within : (f : Formula) (rules : Rules) (e : Entry) (cells : List CellView) → IsFormula f → is_legal f rules e ≡ true → replaces_one e ≡ true → AreCellsOf f cells
+pub new-within : (f : Formula) (rules : Rules) (e : Entry) (cells : List CellView) → IsFormula f → is_legal f rules e ≡ true → AreCellsOf f cells
     → All (λ (c : Named). IsWithin (length cells) c.clause) (new_clauses e)
-new-within f rules e cells v h k a =
-    rw (cells-length f cells a) (λ j d l. (legal-replaces f rules e v h k).new_within (get_or (new_clauses e) j d) (Contains-get_or (new_clauses e) j d l))
+new-within f rules e cells v h a =
+    rw (cells-length f cells a) (λ j d l. (legal-replaces f rules e v h).new_within (get_or (new_clauses e) j d) (Contains-get_or (new_clauses e) j d l))
 
 -- what `apply` requires: the legal entry, as it is posted, is a change of the formula's cells
-pub legal-change : (f : Formula) (rules : Rules) (e : Entry) (cells : List CellView) → IsFormula f → is_legal f rules e ≡ true → e ≡ numbered f.next e → replaces_one e ≡ true → AreCellsOf f cells
-    → IsChange cells e
-legal-change f rules e cells v h n k a =
-    let r = legal-replaces f rules e v h k in
+pub legal-change : (f : Formula) (rules : Rules) (e : Entry) (cells : List CellView) → IsFormula f → is_legal f rules e ≡ true → e ≡ numbered f.next e → AreCellsOf f cells → IsChange cells e
+legal-change f rules e cells v h n a =
+    let r = legal-replaces f rules e v h in
     let same = cells-length f cells a in
     record {
-      kind = k;
       gone_within = rw same (λ j d l. within_at f (get_or (gone_clauses e) j d) v (r.gone_in (get_or (gone_clauses e) j d) (Contains-get_or (gone_clauses e) j d l)));
-      new_within = new-within f rules e cells v h k a;
+      new_within = new-within f rules e cells v h a;
       named = λ j d l i c m q g o s.
           let here = cells-clause f cells a j d l i c m in
           let gone = get_or (gone_clauses e) q g in
@@ -126,8 +153,9 @@ legal-change f rules e cells v h n k a =
       above = λ j d l i c m q b o.
           let here = cells-clause f cells a j d l i c m in
           let below = below_at f (get_or (get_or cells j d).clauses i c) v here.0 in
-          let next : (get_or (new_clauses e) q b).number ≡ f.next = new-number f.next e k n (get_or (new_clauses e) q b) (Contains-get_or (new_clauses e) q b o) in
+          let next : f.next ≤ (get_or (new_clauses e) q b).number = new-numbers f.next e n (get_or (new_clauses e) q b) (Contains-get_or (new_clauses e) q b o) in
           omega arith;
+      rising = new-rise f.next e n;
     }
 
 -- what `apply` makes: the cells of the formula after the entry
@@ -145,45 +173,53 @@ cells-after f rules e old new v h n a variables lists =
           ∙ ap (λ m. map (occurrences g.clauses) (range_with_len 1 m)) (cells-length f old a ∙ sym many);
     }
 
--- ---- the number of the new clause comes late: what was prepared is right for each
+-- ---- the numbers of the new clauses come late: what was prepared is right for each
 
-pub replaces_one-numbered : (n : ℕ) (e : Entry) → replaces_one (numbered n e) ≡ replaces_one e
-replaces_one-numbered n (Taut gone) = refl
-replaces_one-numbered n (Subsume by gone) = refl
-replaces_one-numbered n (Strengthen by on l new) = refl
-replaces_one-numbered n (Block gone l) = refl
-replaces_one-numbered n (Eliminate x pos neg new) = refl
-replaces_one-numbered n (Look x) = refl
+places-renumbered : (n : ℕ) (cs : List Named) → map (λ (c : Named). map (λ (v : ℕ). c.clause) (variables_after 0 c.clause)) (renumbered n cs) ≡ map (λ (c : Named). map (λ (v : ℕ). c.clause) (variables_after 0 c.clause)) cs
+places-renumbered n [] = refl
+places-renumbered n (c ∷ cs) = ap (λ (ps : List (List (List ℕ))). map (λ (v : ℕ). c.clause) (variables_after 0 c.clause) ∷ ps) (places-renumbered (n + 1) cs)
 
-pub places_of-numbered : (n : ℕ) (e : Entry) → replaces_one e ≡ true → places_of (numbered n e) ≡ places_of e
-places_of-numbered n (Taut gone) k = refl
-places_of-numbered n (Subsume by gone) k = refl
-places_of-numbered n (Strengthen by on l new) k = refl
-places_of-numbered n (Block gone l) k = refl
-places_of-numbered n (Eliminate x pos neg new) k = absurd (false≢true k)
-places_of-numbered n (Look x) k = refl
+pub places_of-numbered : (n : ℕ) (e : Entry) → places_of (numbered n e) ≡ places_of e
+places_of-numbered n (Taut gone) = refl
+places_of-numbered n (Subsume by gone) = refl
+places_of-numbered n (Strengthen by on l new) = refl
+places_of-numbered n (Block gone l) = refl
+places_of-numbered n (Eliminate x pos neg new) = places-renumbered n new
+places_of-numbered n (Look x) = refl
 
--- as many of one clause under any number have the variable
-as-many : (n : ℕ) (new : Named) (x : ℕ) → length (occurrences (record { number = n; clause = new.clause } ∷ []) x) ≡ length (occurrences (new ∷ []) x)
-as-many n new x = go (record { number = n; clause = new.clause }) (has_variable x new.clause)
+-- as many of the same clauses under any numbers have the variable
+many-renumbered : (n : ℕ) (cs : List Named) (x : ℕ) → length (occurrences (renumbered n cs) x) ≡ length (occurrences cs x)
+many-renumbered n [] x = refl
+many-renumbered n (c ∷ cs) x = go (record { number = n; clause = c.clause }) (has_variable x c.clause) (many-renumbered (n + 1) cs x)
   where
-    go : (other : Named) (b : Bool) → length (cond b (other ∷ []) []) ≡ length (cond b (new ∷ []) [])
-    go other true = refl
-    go other false = refl
+    go : (other : Named) (b : Bool) → length (occurrences (renumbered (n + 1) cs) x) ≡ length (occurrences cs x)
+        → length (cond b (other ∷ occurrences (renumbered (n + 1) cs) x) (occurrences (renumbered (n + 1) cs) x)) ≡ length (cond b (c ∷ occurrences cs x) (occurrences cs x))
+    go other true e = ap suc e
+    go other false e = e
 
-pub HasRoom-numbered : (n : ℕ) (e : Entry) (cells : List CellView) → replaces_one e ≡ true → HasRoom cells e → HasRoom cells (numbered n e)
-HasRoom-numbered n (Taut gone) cells k h = h
-HasRoom-numbered n (Subsume by gone) cells k h = h
-HasRoom-numbered n (Strengthen by on l new) cells k h = λ j d m. subst (λ q. q ≤ (get_or cells j d).spare) (sym (as-many n new (get_or cells j d).variable)) (h j d m)
-HasRoom-numbered n (Block gone l) cells k h = h
-HasRoom-numbered n (Eliminate x pos neg new) cells k h = absurd (false≢true k)
-HasRoom-numbered n (Look x) cells k h = h
+many-numbered : (n : ℕ) (e : Entry) (x : ℕ) → length (occurrences (new_clauses (numbered n e)) x) ≡ length (occurrences (new_clauses e) x)
+many-numbered n (Taut gone) x = refl
+many-numbered n (Subsume by gone) x = refl
+many-numbered n (Strengthen by on l new) x = many-renumbered n (new ∷ []) x
+many-numbered n (Block gone l) x = refl
+many-numbered n (Eliminate y pos neg new) x = many-renumbered n new x
+many-numbered n (Look y) x = refl
 
--- the entry's clause is within where the numbered one's is
-pub within-numbered : (n v : ℕ) (e : Entry) → replaces_one e ≡ true → All (λ (c : Named). IsWithin v c.clause) (new_clauses (numbered n e)) → All (λ (c : Named). IsWithin v c.clause) (new_clauses e)
-within-numbered n v (Taut gone) k h = h
-within-numbered n v (Subsume by gone) k h = h
-within-numbered n v (Strengthen by on l new) k h = All-push (λ (c : Named). IsWithin v c.clause) [] new (λ j d m. absurd (omega arith)) (h zero (record { number = n; clause = new.clause }) (omega arith))
-within-numbered n v (Block gone l) k h = h
-within-numbered n v (Eliminate x pos neg new) k h = absurd (false≢true k)
-within-numbered n v (Look x) k h = h
+pub HasRoom-numbered : (n : ℕ) (e : Entry) (cells : List CellView) → HasRoom cells e → HasRoom cells (numbered n e)
+HasRoom-numbered n e cells h = λ j d m. subst (λ q. q ≤ (get_or cells j d).spare) (sym (many-numbered n e (get_or cells j d).variable)) (h j d m)
+
+-- the entry's clauses are within where the numbered ones are
+within-renumbered : (n v : ℕ) (cs : List Named) → All (λ (c : Named). IsWithin v c.clause) (renumbered n cs) → All (λ (c : Named). IsWithin v c.clause) cs
+within-renumbered n v [] h = λ j d m. absurd (omega arith)
+within-renumbered n v (c ∷ cs) h =
+    let first = h zero c (omega arith) in
+    let rest = within-renumbered (n + 1) v cs (λ j d m. h (suc j) d (omega arith)) in
+    All-append (λ (z : Named). IsWithin v z.clause) (c ∷ []) cs (All-push (λ (z : Named). IsWithin v z.clause) [] c (λ j d m. absurd (omega arith)) first) rest
+
+pub within-numbered : (n v : ℕ) (e : Entry) → All (λ (c : Named). IsWithin v c.clause) (new_clauses (numbered n e)) → All (λ (c : Named). IsWithin v c.clause) (new_clauses e)
+within-numbered n v (Taut gone) h = h
+within-numbered n v (Subsume by gone) h = h
+within-numbered n v (Strengthen by on l new) h = within-renumbered n v (new ∷ []) h
+within-numbered n v (Block gone l) h = h
+within-numbered n v (Eliminate x pos neg new) h = within-renumbered n v new h
+within-numbered n v (Look x) h = h

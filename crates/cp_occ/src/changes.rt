@@ -1,12 +1,12 @@
 //! What an entry that is posted does to the cells: all memory is taken first, and then its clauses go and come.
-ghost use Rattle.std.specs.Prelude.{◌≡◌, ◌<◌, length, map, IsTrue, OnOk, IfOk};
+ghost use Rattle.std.specs.Prelude.{◌≡◌, ◌<◌, ◌≤◌, ◌++◌, [], ◌∷◌, length, map, IsTrue, OnOk, IfOk};
 ghost use Rattle.std.specs.List.{All};
-ghost use Rattle.cp_logic.specs.Clauses.{has_variable};
-ghost use Rattle.cp_logic.specs.Formulas.{IsWithin};
-ghost use Rattle.cp_logic.specs.Entries.{new_clauses};
+ghost use Rattle.cp_logic.specs.Clauses.{has_variable, IsAscending};
+ghost use Rattle.cp_logic.specs.Formulas.{IsWithin, numbers_of, occurrences};
+ghost use Rattle.cp_logic.specs.Entries.{gone_clauses, new_clauses};
 ghost use Rattle.cp_logic.specs.Views.{entry_of};
 ghost use Rattle.cp_occ.specs.Cells.{AreNumbered, variables_after, variables_of, lists_of};
-ghost use Rattle.cp_occ.specs.Changes.{replaces_one, places_of, HasRoom, IsChange, lists_after, IsRoomier, IsWithout, IsWith, Each};
+ghost use Rattle.cp_occ.specs.Changes.{places_of, HasRoom, IsChange, lists_after, IsRoomier, IsWithout, IsWith, IsChanged, Each};
 
 use crate::cell::Cell;
 use crate::cells::Cells;
@@ -15,26 +15,40 @@ use crate::variables::Variables;
 use cp_logic::{Clause, Entry, Named};
 use std::alloc::{AllocError, Global};
 use std::marker::Model;
+use std::slice;
 
-/// The places of an entry's new clause, one for each of its variables, seen as the list of what stands there.
+// Places of one clause, seen as the list of what stands there.
+#[derive(Drop)]
+pub(crate) struct Copies {
+    places: Vec<Place>,
+}
+
+impl Model for Copies {
+    ghost use Rattle.std.specs.Prelude.{ℕ, List};
+
+    ghost Value = { List (List ℕ) };
+
+    ghost view = { λ c. c.places.items };
+}
+
+/// For each new clause of an entry its places, one for each of its variables, seen as the lists of what stands there.
 #[derive(Drop)]
 pub struct Prepared {
-    places: Vec<Place>,
+    copies: Vec<Copies>,
 }
 
 impl Model for Prepared {
     ghost use Rattle.std.specs.Prelude.{ℕ, List};
 
-    ghost Value = { List (List ℕ) };
+    ghost Value = { List (List (List ℕ)) };
 
-    ghost view = { λ p. p.places.items };
+    ghost view = { λ p. p.copies.items };
 }
 
 impl Cells {
-    /// Takes all memory that the entry needs: places of its new clause, if it has one, and room in the cells of that clause's
-    /// variables. The error comes only for want of memory. The cells list what they listed, also after an error.
+    /// Takes all memory that the entry needs: places of its new clauses, and room in the cells of their variables. The error
+    /// comes only for want of memory. The cells list what they listed, also after an error.
     pub fn prepare(&mut self, alloc: Global, entry: &Entry) -> Result<Prepared, AllocError>
-        requires kind { IsTrue (replaces_one (entry_of entry.now)) }
         requires numbered { AreNumbered self.old.items }
         requires within { All (λ c. IsWithin (length self.old.items) c.clause) (new_clauses (entry_of entry.now)) }
         ensures variables { variables_of self.new.items ≡ variables_of self.old.items }
@@ -43,21 +57,15 @@ impl Cells {
         ensures places { IfOk result (λ p. p ≡ places_of (entry_of entry.now)) }
         ensures room { OnOk result (HasRoom self.new.items (entry_of entry.now)) }
     {
-        match entry {
-            Entry::Strengthen { new, .. } => {
-                make_room(self.cells.as_mut_slice(), &new.clause)?;
-                Ok(Prepared {
-                    places: places(alloc, &new.clause)?,
-                })
-            }
-            _ => Ok(Prepared {
-                places: Vec::new(alloc),
-            }),
-        }
+        let added = added_by(entry);
+        make_room_for_all(self.cells.as_mut_slice(), added)?;
+        Ok(Prepared {
+            copies: copies_of_all(alloc, added)?,
+        })
     }
 
-    /// Takes the clause that the entry removes out of the cells of its variables, and puts the entry's new clause, if it has
-    /// one, into the cells of its own, under its number. It takes no memory.
+    /// Takes each clause that the entry removes out of the cells of its variables, and puts each new clause of the entry into
+    /// the cells of its own, under its number. It takes no memory.
     pub fn apply(&mut self, entry: &Entry, prepared: Prepared)
         requires numbered { AreNumbered self.old.items }
         requires change { IsChange self.old.items (entry_of entry.now) }
@@ -67,44 +75,130 @@ impl Cells {
         ensures lists { lists_of self.new.items ≡ lists_after self.old.items (entry_of entry.now) }
         ensures spare { self.new.spare ≡ self.old.spare }
     {
-        match entry {
-            Entry::Taut { gone } | Entry::Subsume { gone, .. } => {
-                remove_everywhere(self.cells.as_mut_slice(), gone);
-            }
-            Entry::Strengthen { on, new, .. } => {
-                remove_everywhere(self.cells.as_mut_slice(), on);
-                insert_everywhere(self.cells.as_mut_slice(), new, prepared.places);
-            }
-            Entry::Block { .. } | Entry::Eliminate { .. } | Entry::Look { .. } => unreachable!(),
-        }
+        let (first, second) = gone_by(entry);
+        change(
+            self.cells.as_mut_slice(),
+            first,
+            second,
+            added_by(entry),
+            prepared.copies,
+        );
     }
 }
 
-// Makes room for the clause in the cells of its variables.
-fn make_room(cells: &mut [Cell], clause: &Clause) -> Result<(), AllocError>
+// The clauses that the entry adds.
+fn added_by(entry: &Entry) -> &[Named]
+    ensures { result.now ≡ new_clauses (entry_of entry.now) }
+{
+    match entry {
+        Entry::Strengthen { new, .. } => slice::from_ref(new),
+        Entry::Eliminate { new, .. } => new.as_slice(),
+        Entry::Taut { .. } | Entry::Subsume { .. } | Entry::Block { .. } | Entry::Look { .. } =>
+            &[],
+    }
+}
+
+// The clauses that the entry removes, in two parts.
+fn gone_by(entry: &Entry) -> (&[Named], &[Named])
+    ensures { result.0.now ++ result.1.now ≡ gone_clauses (entry_of entry.now) }
+{
+    match entry {
+        Entry::Taut { gone } | Entry::Subsume { gone, .. } | Entry::Block { gone, .. } => {
+            (slice::from_ref(gone), &[])
+        }
+        Entry::Strengthen { on, .. } => (slice::from_ref(on), &[]),
+        Entry::Eliminate { pos, neg, .. } => (pos.as_slice(), neg.as_slice()),
+        Entry::Look { .. } => (&[], &[]),
+    }
+}
+
+// Makes room in the cells of the variables of the clauses. As many as all may come into one cell.
+fn make_room_for_all(cells: &mut [Cell], added: &[Named]) -> Result<(), AllocError>
     requires numbered { AreNumbered cells.old }
-    requires within { IsWithin (length cells.old) clause.now }
+    requires within { All (λ c. IsWithin (length cells.old) c.clause) added.now }
     ensures len { length cells.new ≡ length cells.old }
     ensures variables { variables_of cells.new ≡ variables_of cells.old }
     ensures lists { lists_of cells.new ≡ lists_of cells.old }
-    ensures room { OnOk result (Each (IsRoomier clause.now) cells.old cells.new) }
+    ensures room { OnOk result (All (λ cell. length (occurrences added.now cell.variable) ≤ cell.spare) cells.new) }
 {
-    for var in Variables::of(clause) {
-        cells[var as usize - 1].reserve(1)?;
+    let most = added.len();
+    for named in added {
+        make_room(cells, named, most)?;
     }
     Ok(())
 }
 
+// Makes room for `n` clauses in the cells of the clause's variables.
+fn make_room(cells: &mut [Cell], added: &Named, n: usize) -> Result<(), AllocError>
+    requires numbered { AreNumbered cells.old }
+    requires within { IsWithin (length cells.old) added.now.clause }
+    ensures len { length cells.new ≡ length cells.old }
+    ensures variables { variables_of cells.new ≡ variables_of cells.old }
+    ensures lists { lists_of cells.new ≡ lists_of cells.old }
+    ensures room { OnOk result (Each (IsRoomier n (added.now ∷ [])) cells.old cells.new) }
+{
+    for var in Variables::of(&added.clause) {
+        cells[var as usize - 1].reserve(n)?;
+    }
+    Ok(())
+}
+
+// Places of each of the clauses, one for each of its variables.
+fn copies_of_all(alloc: Global, added: &[Named]) -> Result<Vec<Copies>, AllocError>
+    ensures { IfOk result (λ ps. ps.items ≡ map (λ c. map (λ v. c.clause) (variables_after 0 c.clause)) added.now) }
+{
+    let mut all = Vec::with_capacity(alloc, added.len())?;
+    for named in added {
+        all.push(copies_of(alloc, &named.clause)?)?;
+    }
+    Ok(all)
+}
+
 // Places of the clause, one for each of its variables.
-fn places(alloc: Global, clause: &Clause) -> Result<Vec<Place>, AllocError>
-    ensures { IfOk result (λ ps. ps.items ≡ map (λ v. clause.now) (variables_after 0 clause.now)) }
+fn copies_of(alloc: Global, clause: &Clause) -> Result<Copies, AllocError>
+    ensures { IfOk result (λ ps. ps ≡ map (λ v. clause.now) (variables_after 0 clause.now)) }
 {
     let first = Place::new(alloc, clause.again(alloc)?)?;
     let mut places = Vec::with_capacity(alloc, clause.lits().len())?;
     for _var in Variables::of(clause) {
         places.push(first.again()?)?;
     }
-    Ok(places)
+    Ok(Copies { places })
+}
+
+// Takes the clauses of two lists out of the cells, and puts those of a third one in.
+fn change(
+    cells: &mut [Cell],
+    first: &[Named],
+    second: &[Named],
+    added: &[Named],
+    copies: Vec<Copies>,
+)
+    requires numbered { AreNumbered cells.old }
+    requires gone_within { All (λ c. IsWithin (length cells.old) c.clause) (first.now ++ second.now) }
+    requires within { All (λ c. IsWithin (length cells.old) c.clause) added.now }
+    requires named { All (λ cell. All (λ c. All (λ g. c.number ≡ g.number → IsTrue (has_variable cell.variable g.clause)) (first.now ++ second.now)) cell.clauses) cells.old }
+    requires above { All (λ cell. All (λ c. All (λ n. c.number < n.number) added.now) cell.clauses) cells.old }
+    requires rising { IsAscending (numbers_of added.now) }
+    requires room { All (λ cell. length (occurrences added.now cell.variable) ≤ cell.spare) cells.old }
+    requires places { copies.items ≡ map (λ c. map (λ v. c.clause) (variables_after 0 c.clause)) added.now }
+    ensures { Each (IsChanged (first.now ++ second.now) added.now) cells.old cells.new }
+{
+    remove_all(cells, first);
+    remove_all(cells, second);
+    insert_all(cells, added, copies);
+}
+
+// Takes the clauses out of the cells of their variables.
+fn remove_all(cells: &mut [Cell], gone: &[Named])
+    requires numbered { AreNumbered cells.old }
+    requires within { All (λ c. IsWithin (length cells.old) c.clause) gone.now }
+    requires named { All (λ cell. All (λ c. All (λ g. c.number ≡ g.number → IsTrue (has_variable cell.variable g.clause)) gone.now) cell.clauses) cells.old }
+    ensures { Each (IsWithout gone.now) cells.old cells.new }
+{
+    for named in gone {
+        remove_everywhere(cells, named);
+    }
 }
 
 // Takes the clause out of the cells of its variables.
@@ -112,23 +206,42 @@ fn remove_everywhere(cells: &mut [Cell], gone: &Named)
     requires numbered { AreNumbered cells.old }
     requires within { IsWithin (length cells.old) gone.now.clause }
     requires named { All (λ cell. All (λ c. c.number ≡ gone.now.number → IsTrue (has_variable cell.variable gone.now.clause)) cell.clauses) cells.old }
-    ensures { Each (IsWithout gone.now) cells.old cells.new }
+    ensures { Each (IsWithout (gone.now ∷ [])) cells.old cells.new }
 {
     for var in Variables::of(&gone.clause) {
         let _ = cells[var as usize - 1].remove(gone.number);
     }
 }
 
+// Puts the clauses into the cells of their variables, each by its places.
+fn insert_all(cells: &mut [Cell], added: &[Named], copies: Vec<Copies>)
+    requires numbered { AreNumbered cells.old }
+    requires within { All (λ c. IsWithin (length cells.old) c.clause) added.now }
+    requires above { All (λ cell. All (λ c. All (λ n. c.number < n.number) added.now) cell.clauses) cells.old }
+    requires rising { IsAscending (numbers_of added.now) }
+    requires room { All (λ cell. length (occurrences added.now cell.variable) ≤ cell.spare) cells.old }
+    requires places { copies.items ≡ map (λ c. map (λ v. c.clause) (variables_after 0 c.clause)) added.now }
+    ensures { Each (IsWith added.now) cells.old cells.new }
+{
+    let mut left = copies.into_iter();
+    for named in added {
+        let Some(copies) = left.next() else {
+            unreachable!()
+        };
+        insert_everywhere(cells, named, copies);
+    }
+}
+
 // Puts the clause into the cells of its variables, by one of its places for each.
-fn insert_everywhere(cells: &mut [Cell], added: &Named, places: Vec<Place>)
+fn insert_everywhere(cells: &mut [Cell], added: &Named, copies: Copies)
     requires numbered { AreNumbered cells.old }
     requires within { IsWithin (length cells.old) added.now.clause }
     requires above { All (λ cell. All (λ c. c.number < added.now.number) cell.clauses) cells.old }
     requires room { All (λ cell. IsTrue (has_variable cell.variable added.now.clause) → 0 < cell.spare) cells.old }
-    requires places { places.items ≡ map (λ v. added.now.clause) (variables_after 0 added.now.clause) }
-    ensures { Each (IsWith added.now) cells.old cells.new }
+    requires places { copies ≡ map (λ v. added.now.clause) (variables_after 0 added.now.clause) }
+    ensures { Each (IsWith (added.now ∷ [])) cells.old cells.new }
 {
-    let mut left = places;
+    let mut left = copies.places;
     for var in Variables::of(&added.clause) {
         let Some(place) = left.pop() else {
             unreachable!()

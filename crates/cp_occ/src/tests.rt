@@ -1,7 +1,7 @@
 //! Each call once with ample memory.
 ghost use Rattle.std.specs.Prelude.{◌≡◌, [], ◌∷◌, IfOk};
 ghost use Rattle.cp_logic.specs.Clauses.{IsAscending};
-ghost use Rattle.cp_logic.specs.Entries.{Strengthen};
+ghost use Rattle.cp_logic.specs.Entries.{Strengthen, Block};
 ghost use Rattle.cp_logic.specs.Views.{entry_of};
 
 use crate::{Cell, Cells, Place};
@@ -100,6 +100,27 @@ fn strengthening(alloc: Global) -> Result<Entry, AllocError>
     })
 }
 
+// Its last clause blocked on its last literal.
+fn blocking(alloc: Global) -> Result<Entry, AllocError>
+    ensures { IfOk result (λ e. entry_of e ≡ Block (record { number = 3; clause = 5 ∷ 6 ∷ [] }) 6) }
+{
+    Ok(Entry::Block {
+        gone: named(alloc, 3, &[Lit::new(2, false), Lit::new(3, true)])?,
+        lit: Lit::new(3, true),
+    })
+}
+
+// Each variable with each number of a clause in its cell.
+fn listed(alloc: Global, cells: &Cells) -> Result<Vec<(u32, u64)>, AllocError> {
+    let mut seen = Vec::new(alloc);
+    for cell in cells.iter() {
+        for (number, _clause) in cell.iter() {
+            seen.push((cell.var(), number))?;
+        }
+    }
+    Ok(seen)
+}
+
 #[test]
 fn an_entry_changes_the_cells_of_its_variables(rt: HostRuntime) -> Result<(), Fail> {
     let formula = chain(rt.alloc())?;
@@ -108,12 +129,18 @@ fn an_entry_changes_the_cells_of_its_variables(rt: HostRuntime) -> Result<(), Fa
     let prepared = cells.prepare(rt.alloc(), &entry)?;
     cells.apply(&entry, prepared);
     let expected = [(1, 1), (2, 3), (2, 4), (3, 3)];
-    let mut seen = Vec::new(rt.alloc());
-    for cell in cells.iter() {
-        for (number, _clause) in cell.iter() {
-            seen.push((cell.var(), number))?;
-        }
-    }
-    assert_eq!(rt; seen.as_slice(), expected.as_slice());
+    assert_eq!(rt; listed(rt.alloc(), &cells)?.as_slice(), expected.as_slice());
+    Ok(())
+}
+
+#[test]
+fn a_blocked_clause_leaves_its_cells(rt: HostRuntime) -> Result<(), Fail> {
+    let formula = chain(rt.alloc())?;
+    let entry = blocking(rt.alloc())?;
+    let mut cells = Cells::of_formula(rt.alloc(), &formula)?;
+    let prepared = cells.prepare(rt.alloc(), &entry)?;
+    cells.apply(&entry, prepared);
+    let expected = [(1, 1), (1, 2), (2, 2)];
+    assert_eq!(rt; listed(rt.alloc(), &cells)?.as_slice(), expected.as_slice());
     Ok(())
 }

@@ -1,4 +1,4 @@
-use Rattle.std.proofs.Common.{◌-◌, get_or, refl, sym, ◌∙◌, subst, arith}
+use Rattle.std.proofs.Common.{◌-◌, [], ◌∷◌, get_or, refl, sym, ◌∙◌, subst, arith}
 use Rattle.std.proofs.Math.Seq.{map-set_same}
 use Rattle.cp_occ.specs.Cells.{CellView}
 use Rattle.cp_occ.specs.Changes.{IsRoomier}
@@ -8,9 +8,9 @@ use Rattle.cp_occ.proofs.changes.make_room.Goals as goal
 pub loop-var-init : goal.loop-var-init
 loop-var-init c =
     record {
-      going = subst (Going (IsRoomier c.args.clause.now) c.args.clause.now c.args.cells.now c.args.cells.now) (sym (c.into_iter-var-iterator.ensures.into_iter_gives ∙ c.of-var-items.ensures.value))
-          (Going-start (IsRoomier c.args.clause.now) c.args.clause.now c.args.cells.now c.requires.numbered c.of-var-items.ensures.ascending c.requires.within
-          (λ k d h f. same-room c.args.clause.now (get_or c.args.cells.now k d) f));
+      going = subst (Going (IsRoomier c.args.n (c.args.added.now ∷ [])) c.args.added.now.clause c.args.cells.now c.args.cells.now) (sym (c.into_iter-var-iterator.ensures.into_iter_gives ∙ c.of-var-items.ensures.value))
+          (Going-start (IsRoomier c.args.n (c.args.added.now ∷ [])) c.args.added.now.clause c.args.cells.now c.requires.numbered c.of-var-items.ensures.ascending c.requires.within
+          (λ k d h f. same-room c.args.n c.args.added.now (get_or c.args.cells.now k d) f));
       variables = refl;
       lists = refl;
     }
@@ -24,10 +24,10 @@ bounds-cells-var c = next-high _ _ _ _ _ _ (Going-next _ _ _ _ _ _ _ c.loop-var.
 pub loop-var-preserved : goal.loop-var-preserved
 loop-var-preserved c =
     record {
-      going = Going-step (IsRoomier c.args.clause.now) c.args.clause.now c.args.cells.now c.loop-var.cells c.in-Some.var c.next.new.self
+      going = Going-step (IsRoomier c.args.n (c.args.added.now ∷ [])) c.args.added.now.clause c.args.cells.now c.loop-var.cells c.in-Some.var c.next.new.self
           (Going-next _ _ _ _ _ _ _ c.loop-var.invariant.going c.in-Some.ensures.steps)
           c.index-cells-var.result c.reserve.new.self
-          (record { variable = c.in_ok-reserve.ensures.variable; clauses = c.in_ok-reserve.ensures.clauses; room = λ h. c.in_ok-reserve.ensures.ok });
+          (record { variable = c.in_ok-reserve.ensures.variable; clauses = c.in_ok-reserve.ensures.clauses; more = c.in_ok-reserve.ensures.more; room = λ d i t. c.in_ok-reserve.ensures.ok });
       variables = map-set_same (λ (x : CellView). x.variable) c.loop-var.cells (c.in-Some.var - 1) c.reserve.new.self c.index-cells-var.result c.in_ok-reserve.ensures.variable ∙ c.loop-var.invariant.variables;
       lists = map-set_same (λ (x : CellView). x.clauses) c.loop-var.cells (c.in-Some.var - 1) c.reserve.new.self c.index-cells-var.result c.in_ok-reserve.ensures.clauses ∙ c.loop-var.invariant.lists;
     }

@@ -1,4 +1,4 @@
-use Rattle.std.proofs.Common.{◌≡◌}
+use Rattle.std.proofs.Common.{◌≡◌, [], ◌∷◌}
 use Rattle.cp_occ.specs.Cells.{variables_of, lists_of}
 use Rattle.cp_occ.specs.Changes.{IsRoomier}
 use Rattle.cp_occ.proofs.Changed.{Going}
@@ -7,7 +7,7 @@ use Rattle.cp_occ.proofs.changes.make_room.Given as goal
 -- the cells of the variables that are left still wait for room, and all list what they listed
 abbrev pub invariant-loop-var : goal.invariant-loop-var
 invariant-loop-var l = record {
-  going : Going (IsRoomier l.fn.clause) l.fn.clause l.fn.cells l.cells l.var-iterator;
+  going : Going (IsRoomier l.fn.n (l.fn.added ∷ [])) l.fn.added.clause l.fn.cells l.cells l.var-iterator;
   variables : variables_of l.cells ≡ variables_of l.fn.cells;
   lists : lists_of l.cells ≡ lists_of l.fn.cells;
 }
