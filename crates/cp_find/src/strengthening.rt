@@ -25,7 +25,7 @@ use std::alloc::{AllocError, Global};
 /// The first pair of clauses of the cell of which one takes a literal of the cell's variable from the other, by the number of the
 /// one that takes it and then by that of the other, or `None` where there is no such pair. The new clause gets the number `next`.
 ///
-/// The error comes only for want of memory for the new clause and the copies of the two.
+/// The error comes only for want of memory for the new clause.
 pub fn first_strengthened(
     alloc: Global,
     cell: &Cell,
@@ -39,12 +39,12 @@ pub fn first_strengthened(
         if let Some(lit) = struck(by, var)
             && let Some((other, on)) = first_on(cell, number, by, lit)
         {
-            let by = named(alloc, number, by)?;
+            let by = named(number, by)?;
             let new = Named {
                 number: next,
                 clause: on.without(alloc, lit)?,
             };
-            let on = named(alloc, other, on)?;
+            let on = named(other, on)?;
             return Ok(Some(Entry::Strengthen { by, on, lit, new }));
         }
     }

@@ -23,8 +23,8 @@ use std::alloc::{AllocError, Global};
 /// The first pair of clauses of the cell of which one is a subset of the other, by the number of the smaller one and then by that
 /// of the other, or `None` where there is no such pair.
 ///
-/// It adds no clause, so it leaves `next` alone. The error comes only for want of memory for the copies of the two clauses.
-pub fn first_subsumed(alloc: Global, cell: &Cell, next: u64) -> Result<Option<Entry>, AllocError>
+/// It adds no clause, so it leaves `next` alone. The error comes only for want of memory.
+pub fn first_subsumed(_alloc: Global, cell: &Cell, next: u64) -> Result<Option<Entry>, AllocError>
     requires { next ≤ 2 ^ 40 }
     ensures { IfOk result (λ o. option_map entry_of o ≡ first_of_kind cell.now.variable cell.now.clauses (subsumptions cell.now.clauses)) }
 {
@@ -32,8 +32,8 @@ pub fn first_subsumed(alloc: Global, cell: &Cell, next: u64) -> Result<Option<En
     let _ = cell.var();
     for (number, by) in cell.iter() {
         if let Some((other, gone)) = first_gone(cell, number, by) {
-            let by = named(alloc, number, by)?;
-            let gone = named(alloc, other, gone)?;
+            let by = named(number, by)?;
+            let gone = named(other, gone)?;
             return Ok(Some(Entry::Subsume { by, gone }));
         }
     }

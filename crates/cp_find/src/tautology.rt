@@ -15,8 +15,8 @@ use std::alloc::{AllocError, Global};
 
 /// The tautology of the least number among the clauses of the cell, or `None` where none is a tautology.
 ///
-/// It adds no clause, so it leaves `next` alone. The error comes only for want of memory for the copy of the clause.
-pub fn first_taut(alloc: Global, cell: &Cell, next: u64) -> Result<Option<Entry>, AllocError>
+/// It adds no clause, so it leaves `next` alone. The error comes only for want of memory.
+pub fn first_taut(_alloc: Global, cell: &Cell, next: u64) -> Result<Option<Entry>, AllocError>
     requires { next ≤ 2 ^ 40 }
     ensures { IfOk result (λ o. option_map entry_of o ≡ first_of_kind cell.now.variable cell.now.clauses (tauts cell.now.clauses)) }
 {
@@ -24,7 +24,7 @@ pub fn first_taut(alloc: Global, cell: &Cell, next: u64) -> Result<Option<Entry>
     let _ = cell.var();
     for (number, clause) in cell.iter() {
         if clause.is_tautology() {
-            let gone = named(alloc, number, clause)?;
+            let gone = named(number, clause)?;
             return Ok(Some(Entry::Taut { gone }));
         }
     }

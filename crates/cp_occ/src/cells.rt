@@ -43,7 +43,7 @@ impl Cells {
     }
 
     /// The cells of the variables from 1 to `formula.vars()`, each with the clauses that have its variable.
-    /// Each clause is copied once, and its cells share the copy.
+    /// The cells share the formula's clauses, and no literal is copied.
     pub fn of_formula(alloc: Global, formula: &Formula) -> Result<Cells, AllocError>
         ensures variables { IfOk result (λ l. variables_of l.items ≡ range_with_len 1 formula.now.formula.variables) }
         ensures clauses { IfOk result (λ l. lists_of l.items ≡ map (occurrences formula.now.formula.clauses) (range_with_len 1 formula.now.formula.variables)) }

@@ -158,7 +158,7 @@ fn copies_of_all(alloc: Global, added: &[Named]) -> Result<Vec<Copies>, AllocErr
 fn copies_of(alloc: Global, clause: &Clause) -> Result<Copies, AllocError>
     ensures { IfOk result (λ ps. ps ≡ map (λ v. clause.now) (variables_after 0 clause.now)) }
 {
-    let first = Place::new(alloc, clause.again(alloc)?)?;
+    let first = Place::new(alloc, clause.again()?)?;
     let mut places = Vec::with_capacity(alloc, clause.lits().len())?;
     for _var in Variables::of(clause) {
         places.push(first.again()?)?;

@@ -57,7 +57,7 @@ pub(crate) fn enter(
     requires above { (k : ℕ) (d : _) → k < length cells.old → All (λ c. c.number < number) (slice_index_or cells.old k d).clauses }
     ensures { OnOk result (Enters (record { number = number; clause = clause.now }) cells.old cells.new) }
 {
-    let place = Place::new(alloc, clause.again(alloc)?)?;
+    let place = Place::new(alloc, clause.again()?)?;
     for var in Variables::of(clause) {
         put(&mut cells[var as usize - 1], number, place.again()?)?;
     }

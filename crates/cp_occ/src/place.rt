@@ -1,35 +1,32 @@
 //! Places: clauses that are shared and never change.
 ghost use Rattle.std.specs.Prelude.{◌≡◌, IfOk};
-ghost use Rattle.std.specs.Arc.{arc_value};
-ghost use Rattle.cp_logic.specs.Clauses.{IsAscending};
 
 use cp_logic::Clause;
 use std::alloc::{AllocError, Global};
 use std::marker::Model;
-use std::sync::Arc;
 
-/// A shared clause that never changes, seen as the clause. The clause goes with its last place.
+/// A shared clause that never changes, seen as the clause. The literals go with their last place or clause.
+///
+/// A clause's literals stand behind std's `Arc`, so a place is a clause whose calls are those that share.
 #[derive(Drop)]
 pub struct Place {
-    shared: Arc<Clause>,
+    shared: Clause,
 }
 
 impl Model for Place {
     ghost use Rattle.std.specs.Prelude.{ℕ, List};
-    ghost use Rattle.std.specs.Arc.{arc_value};
 
     ghost Value = { List ℕ };
 
-    ghost view = { λ p. arc_value p.shared };
+    ghost view = { λ p. p.shared };
 }
 
 impl Place {
-    /// The first place of the clause.
-    pub fn new(alloc: Global, clause: Clause) -> Result<Place, AllocError>
+    /// The first place of the clause. It takes no memory beside the clause's own.
+    pub fn new(_alloc: Global, clause: Clause) -> Result<Place, AllocError>
         ensures { IfOk result (λ p. p ≡ clause) }
     {
-        let shared = Arc::new(alloc, clause)?;
-        Ok(Place { shared })
+        Ok(Place { shared: clause })
     }
 
     /// The clause that stands here.
@@ -43,7 +40,7 @@ impl Place {
     pub fn again(&self) -> Result<Place, AllocError>
         ensures { IfOk result (λ p. p ≡ self.now) }
     {
-        let shared = Arc::try_clone(&self.shared)?;
+        let shared = self.shared.again()?;
         Ok(Place { shared })
     }
 }
