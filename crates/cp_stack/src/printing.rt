@@ -1,8 +1,8 @@
 //! Printing a witness stack to a desk, through a buffer and without taking memory.
 //!
-//! The pairs stand from the first to the last that was made, so that a run can write them as they come; whoever completes a model
-//! goes back from the last. A pair is one line, its literal first: so the line is also the clause, in any order, as the witness
-//! stands first in the clauses that CaDiCaL's `extend.cpp` and the extension stack of Lingeling keep.
+//! The pairs stand in the order in which they were made, so that a run can append one more. Whoever completes a model goes through
+//! them from the last to the first, as CaDiCaL's `extend.cpp` does. A pair is one line, its literal first and then the others of its
+//! clause: so MiniSat's `SimpSolver::mkElimClause` keeps the clauses of an eliminated variable, and no literal is written twice.
 
 ghost use Rattle.std.specs.Prelude.{◌≡◌, Some};
 ghost use Rattle.cp_io.specs.declared.role.Way.TheVariants.{Out};
