@@ -22,9 +22,10 @@ pub fn print_stack<D: Desk>(desk: &mut D, stack: &Stack) -> Result<(), Failed>
     requires { (D.port desk.old StackRole).way ≡ Some Out }
     ensures { AtRole StackRole (Writes (stack_text stack.now.vars (pairs_of stack.now.pairs)) result) (D.port desk.old) (D.port desk.new) }
 {
+    let pairs = stack.pairs.as_slice();
     let mut buffer = OutputBuffer::new();
-    put_header(&mut buffer, desk, stack.vars, stack.pairs.len());
-    for pair in stack.pairs.as_slice() {
+    put_header(&mut buffer, desk, stack.vars, pairs.len());
+    for pair in pairs {
         put_pair(&mut buffer, desk, pair);
     }
     buffer.finish(desk, Role::Stack)
