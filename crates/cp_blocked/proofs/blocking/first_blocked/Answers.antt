@@ -1,0 +1,43 @@
+use Rattle.std.proofs.Common.{◌≡◌, ◌∙◌, ℕ, List, sym, ap, Some}
+use Rattle.std.specs.Option.{option_map}
+use Rattle.std.specs.List.{find}
+use Rattle.cp_logic.specs.declared.named.Named.{Named}
+use Rattle.cp_logic.specs.Entries.{Block}
+use Rattle.cp_logic.specs.Legality.{is_blocked}
+use Rattle.cp_blocked.specs.Finds.{literal_at, is_blocked_at}
+use Rattle.cp_blocked.proofs.Firsts.{first-blocked, first-none, cell-have}
+use Rattle.cp_blocked.proofs.Scans.{find-here, find-later}
+use Rattle.cp_blocked.proofs.blocking.first_blocked.Goals as goal
+
+pub returns-then-has_tautology : goal.returns-then-has_tautology
+returns-then-has_tautology c =
+    let cell = c.args.cell.now in
+    sym (first-none cell.variable cell.clauses (cell-have cell c.var-var.ensures.valid) (sym c.has_tautology.ensures ∙ c.if-has_tautology.true))
+
+pub returns-then-is_blocked : goal.returns-then-is_blocked
+returns-then-is_blocked c =
+    let cell = c.args.cell.now in
+    let here : Named = record { number = c.in-Some.number; clause = c.in-Some.clause.now } in
+    let lit : c.literal_at-lit.result ≡ literal_at cell.variable here.clause = c.literal_at-lit.ensures ∙ ap (λ x. literal_at x here.clause) c.var-var.ensures.value in
+    ap (λ (k : List ℕ). Some (Block (let n : Named = record { number = c.in-Some.number; clause = k } in n) c.literal_at-lit.result)) c.in_ok-clause.ensures
+    ∙ ap (λ (l : ℕ). Some (Block here l)) lit
+    ∙ sym (first-blocked cell.variable cell.clauses (cell-have cell c.var-var.ensures.valid) (sym c.has_tautology.ensures ∙ c.if-has_tautology.false)
+    ∙ ap (option_map (λ (k : Named). Block k (literal_at cell.variable k.clause))) (sym c.loop-number.invariant
+    ∙ find-here (is_blocked_at cell.variable cell.clauses) c.loop-number.number-iterator here c.next.new.self c.in-Some.ensures.steps
+    (ap (is_blocked cell.clauses here.clause) (sym lit) ∙ sym c.is_blocked.ensures ∙ c.if-is_blocked.true)))
+
+pub loop-number-preserved : goal.loop-number-preserved
+loop-number-preserved c =
+    let cell = c.args.cell.now in
+    let here : Named = record { number = c.in-Some.number; clause = c.in-Some.clause.now } in
+    let lit : c.literal_at-lit.result ≡ literal_at cell.variable here.clause = c.literal_at-lit.ensures ∙ ap (λ x. literal_at x here.clause) c.var-var.ensures.value in
+    find-later (is_blocked_at cell.variable cell.clauses) c.loop-number.number-iterator here c.next.new.self c.in-Some.ensures.steps
+    (ap (is_blocked cell.clauses here.clause) (sym lit) ∙ sym c.is_blocked.ensures ∙ c.if-is_blocked.false)
+    ∙ c.loop-number.invariant
+
+pub returns : goal.returns
+returns c =
+    let cell = c.args.cell.now in
+    sym (first-blocked cell.variable cell.clauses (cell-have cell c.var-var.ensures.valid) (sym c.has_tautology.ensures ∙ c.if-has_tautology.false)
+    ∙ ap (option_map (λ (k : Named). Block k (literal_at cell.variable k.clause))) (sym c.loop-number.invariant
+    ∙ ap (find (is_blocked_at cell.variable cell.clauses)) c.in-None.ensures.steps.0))

@@ -1,0 +1,99 @@
+//! Blocked clauses: where each resolvent of a clause on one of its literals is a tautology, the clause has no say in whether the
+//! others can be satisfied, and goes. A model of the others that makes it false is repaired by making that literal true.
+//!
+//! Kullmann ("On a generalization of extended resolution", Discrete Applied Mathematics 96-97, 1999) has the notion. Järvisalo,
+//! Biere and Heule ("Blocked Clause Elimination", TACAS 2010) made it a step before solving, and showed that on clauses of circuits
+//! it does what simplifications of the circuit itself do. CaDiCaL's `block.cpp` keeps the candidates and the clauses of each literal,
+//! marks the literals of a candidate, and looks at the clauses with the negation until a resolvent is no tautology. It moves that
+//! clause to the front, where it soon refutes the next candidate.
+//!
+//! Here one cell is searched: each clause that has a part in a resolvent on the variable has the variable, so whoever holds it holds
+//! them all. The answer is the least clause that is blocked, so clauses are looked at by ascending numbers, and no order is learnt.
+//! A clause has one literal of the variable to be blocked on, for a cell with a tautology is left alone: the tautology goes first, by
+//! an entry of its own. Nothing is marked, since the literals of clauses ascend, and one pass over two clauses tells whether their
+//! resolvent is a tautology.
+ghost use Rattle.std.specs.Prelude.{◌≡◌, ◌≤◌, IfOk};
+ghost use Rattle.std.specs.List.{list_any};
+ghost use Rattle.std.specs.Option.{option_map};
+ghost use Rattle.cp_logic.specs.Literals.{negated, variable_of};
+ghost use Rattle.cp_logic.specs.Clauses.{is_tautology};
+ghost use Rattle.cp_logic.specs.Legality.{blocks, clauses_with, first_of_kind, is_blocked};
+ghost use Rattle.cp_logic.specs.Views.{entry_of};
+ghost use Rattle.cp_blocked.specs.Finds.{literal_at};
+
+use cp_logic::{Clause, Entry, Lit, Named};
+use cp_occ::{Cell, LiteralIter};
+use std::alloc::{AllocError, Global};
+
+/// The clause of the least number that is blocked on its literal of the cell's variable, with that literal, or `None` where there is
+/// none. Where a clause of the cell is a tautology, none counts as blocked.
+///
+/// The error comes only for want of memory for the copy of the clause.
+pub fn first_blocked(alloc: Global, cell: &Cell) -> Result<Option<Entry>, AllocError>
+    ensures { IfOk result (λ o. option_map entry_of o ≡ first_of_kind cell.now.variable cell.now.clauses (blocks cell.now.clauses)) }
+{
+    let var = cell.var();
+    if has_tautology(cell) {
+        return Ok(None);
+    }
+    for (number, clause) in cell.iter() {
+        let lit = literal_at(clause, var);
+        if is_blocked(cell, clause, lit) {
+            let clause = clause.again(alloc)?;
+            let gone = Named { number, clause };
+            return Ok(Some(Entry::Block { gone, lit }));
+        }
+    }
+    Ok(None)
+}
+
+// Whether a clause of the cell is a tautology.
+fn has_tautology(cell: &Cell) -> bool
+    ensures { result ≡ list_any (λ c. is_tautology c.clause) cell.now.clauses }
+{
+    for (_, clause) in cell.iter() {
+        if clause.is_tautology() {
+            return true;
+        }
+    }
+    false
+}
+
+// The literal of the variable in a clause that has the variable in one sign.
+fn literal_at(clause: &Clause, var: u32) -> Lit
+    requires low { 1 ≤ var }
+    requires high { var ≤ 2000000 }
+    ensures { result ≡ literal_at var clause.now }
+{
+    let positive = Lit::new(var, true);
+    if clause.contains(positive) {
+        positive
+    } else {
+        positive.negated()
+    }
+}
+
+// Whether each resolvent of the clause with a clause of the cell, on the literal of its variable, is a tautology.
+fn is_blocked(cell: &Cell, clause: &Clause, lit: Lit) -> bool
+    requires { variable_of lit ≡ cell.now.variable }
+    ensures { result ≡ is_blocked cell.now.clauses clause.now lit }
+{
+    for (_, other) in clauses_against(cell, lit) {
+        if !clause.resolves_to_tautology(other, lit) {
+            return false;
+        }
+    }
+    true
+}
+
+// The clauses of the cell that have the negation of the literal.
+fn clauses_against<'a>(cell: &'a Cell, lit: Lit) -> LiteralIter<'a>
+    requires { variable_of lit ≡ cell.now.variable }
+    ensures { result ≡ clauses_with cell.now.clauses (negated lit) }
+{
+    if lit.is_positive() {
+        cell.neg()
+    } else {
+        cell.pos()
+    }
+}
