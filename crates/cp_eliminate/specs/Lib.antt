@@ -1,2 +1,3 @@
 pub mod Eliminating
 pub mod Resolvents
+pub mod Chosen

@@ -1,9 +1,9 @@
-//! Elimination on the cell of the variable 1 of small formulas.
+//! Elimination, and the search over all kinds, on the cell of the variable 1 of small formulas.
 ghost use Rattle.std.specs.Prelude.{◌≡◌};
 ghost use Rattle.cp_logic.specs.Clauses.{has_variable};
 
-use crate::try_eliminate;
-use cp_logic::{Clause, Entry, Lit, Named, NamedList};
+use crate::{search, try_eliminate};
+use cp_logic::{Choice, Clause, Entry, Lit, Named, NamedList, Rules};
 use cp_occ::{Cell, Place};
 use std::alloc::{AllocError, Global};
 use std::test::Fail;
@@ -51,6 +51,51 @@ fn eliminations(rt: HostRuntime) -> Result<(), Fail> {
     Ok(())
 }
 
+#[test]
+fn searches(rt: HostRuntime) -> Result<(), Fail> {
+    let all: &[&[i32]] = &[&[1, 2], &[-1, -2], &[1, 2, 3], &[1, -1], &[-1, 2, 4]];
+    let rows: [(&[&[i32]], Choice, &str); 7] = [
+        (all, chosen(true, true, true, true, true), "Taut 4"),
+        (all, chosen(false, true, true, true, true), "Subsume 1, 3"),
+        (
+            all,
+            chosen(false, false, true, true, true),
+            "Strengthen 1, 5, 6",
+        ),
+        (all, chosen(false, false, false, true, true), "None"),
+        (
+            &[&[1, 2], &[-1, -2]],
+            chosen(true, true, true, true, true),
+            "Block 1",
+        ),
+        (
+            &[&[1, 2], &[-1, -2]],
+            chosen(true, true, true, false, true),
+            "1, [1:{1,2}], [2:{-1,-2}], []",
+        ),
+        (
+            &[&[1, 2], &[-1, -2]],
+            chosen(true, true, true, false, false),
+            "None",
+        ),
+    ];
+    for (clauses, choice, expected) in rows {
+        let cell = cell_of(rt.alloc(), clauses)?;
+        let rules = Rules {
+            choice,
+            bound: 0,
+            budget: 0,
+        };
+        let found = search(rt.alloc(), &cell, &rules, 6)?;
+        assert_eq!(rt; text_of(rt.alloc(), found)?.as_str(), expected);
+    }
+    Ok(())
+}
+
+fn chosen(t: bool, s: bool, x: bool, b: bool, e: bool) -> Choice {
+    Choice { t, s, x, b, e }
+}
+
 // The cell of the variable 1, of these clauses numbered from 1 on.
 fn cell_of(alloc: Global, clauses: &[&[i32]]) -> Result<Cell, AllocError> {
     let mut cell = Cell::new(alloc, 1);
@@ -84,13 +129,32 @@ fn clause_of(alloc: Global, literals: &[i32]) -> Result<Clause, AllocError> {
 fn text_of(alloc: Global, found: Option<Entry>) -> Result<String, AllocError> {
     match found {
         None => String::from_str(alloc, "None"),
+        Some(Entry::Taut { gone }) => {
+            let gone = gone.number;
+            format!(in alloc; "Taut {gone}")
+        }
+        Some(Entry::Subsume { by, gone }) => {
+            let by = by.number;
+            let gone = gone.number;
+            format!(in alloc; "Subsume {by}, {gone}")
+        }
+        Some(Entry::Strengthen { by, on, new, .. }) => {
+            let by = by.number;
+            let on = on.number;
+            let new = new.number;
+            format!(in alloc; "Strengthen {by}, {on}, {new}")
+        }
+        Some(Entry::Block { gone, .. }) => {
+            let gone = gone.number;
+            format!(in alloc; "Block {gone}")
+        }
         Some(Entry::Eliminate { var, pos, neg, new }) => {
             let pos = list_text(alloc, &pos)?;
             let neg = list_text(alloc, &neg)?;
             let new = list_text(alloc, &new)?;
             format!(in alloc; "{var}, {pos}, {neg}, {new}")
         }
-        Some(_) => String::from_str(alloc, "another kind"),
+        Some(Entry::Look { .. }) => String::from_str(alloc, "Look"),
     }
 }
 
