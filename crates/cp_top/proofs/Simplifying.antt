@@ -15,7 +15,7 @@ use Rattle.cp_logic.proofs.Members.{any_from}
 use Rattle.cp_logic.proofs.Complete.{nothing-missed}
 use Rattle.cp_logic.proofs.JournalRuns.{journal-run, journal-satisfiable, journal-completed}
 use Rattle.cp_top.specs.Simplified.{IsSimplified, NothingApplies}
-use Rattle.cp_top.specs.Swept.{IsSwept}
+use Rattle.cp_sweep.specs.Swept.{IsSwept}
 
 -- the three tests of a stop, where it says None
 tests_of_none : (empty spent applicable : Bool)
