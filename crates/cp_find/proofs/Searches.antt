@@ -2,6 +2,7 @@
 use Rattle.std.proofs.Common.{◌≡◌, ℕ, Bool, true, false, cond, ◌&&◌, List, [], ◌∷◌, ◌++◌, map, Option, Some, None, refl, sym, ◌∙◌, ap, subst, inl, inr}
 use Rattle.std.specs.Option.{option_or}
 use Rattle.std.specs.List.{Contains, find, flat_map}
+use Rattle.std.proofs.lemmas.Bool.{eq-eqb}
 use Rattle.std.proofs.lemmas.List.Folds.{find-append}
 use Rattle.std.proofs.lemmas.List.Elements.{Contains-append_cases}
 use Rattle.cp_logic.specs.declared.named.Named.{Named}
@@ -44,6 +45,11 @@ swap true b c = refl
 swap false true c = refl
 swap false false c = refl
 
+-- two tests of one item, the first of them a choice
+both-chosen : {X : Type 0} (b c : Bool) (x : X) → cond (b && c) (Some x) None ≡ if_chosen b (cond c (Some x) None)
+both-chosen true c x = refl
+both-chosen false c x = refl
+
 module _ (cs : List Named) (rules : Rules) (next x : ℕ) where
   -- whether the entry applies at the variable; whether it fits there, whatever is chosen
   test : Entry → Bool
@@ -73,6 +79,21 @@ module _ (cs : List Named) (rules : Rules) (next x : ℕ) where
       let k = of_map (strengthening next m.0 n.0) n.0.clause e n.2 in
       subst (λ z. (is_at x z && applies cs rules z) ≡ (rules.choice.x && (is_at x z && fits cs 0 z))) k.2
       (swap (is_at x (strengthening next m.0 n.0 k.0)) rules.choice.x (fits cs 0 (strengthening next m.0 n.0 k.0)))
+
+  block-chosen : (e : Entry) → Contains (blocks cs) e → test e ≡ (rules.choice.b && fitting e)
+  unfolding test fitting fits
+  block-chosen e i =
+      let m = of_flat_map (λ (gone : Named). map (Block gone) gone.clause) cs e i in let k = of_map (Block m.0) m.0.clause e m.2 in
+      subst (λ z. (is_at x z && applies cs rules z) ≡ (rules.choice.b && (is_at x z && fits cs 0 z))) k.2
+      (swap (is_at x (Block m.0 k.0)) rules.choice.b (fits cs 0 (Block m.0 k.0)))
+
+  -- the elimination, where it is chosen and fits
+  elimination-chosen : find test (elimination cs next x ∷ [])
+      ≡ if_chosen rules.choice.e (cond (fits cs rules.bound (elimination cs next x)) (Some (elimination cs next x)) None)
+  unfolding test
+  elimination-chosen =
+      ap (λ b. cond (b && applies cs rules (elimination cs next x)) (Some (elimination cs next x)) None) (eq-eqb x x refl)
+      ∙ both-chosen rules.choice.e (fits cs rules.bound (elimination cs next x)) (elimination cs next x)
 
   -- the first of the kinds that are not told apart here
   pub first_of_rest : Option Entry
@@ -114,6 +135,16 @@ module _ (cs : List Named) (rules : Rules) (next x : ℕ) where
       | inr n ↦ absurd (none_in z n)
     ]
   ])
+
+  -- else the first of them is the first blocked clause, or the elimination where it fits
+  pub first_of_rest-kinds : first_of_rest
+      ≡ option_or (if_chosen rules.choice.b (first_of_kind x cs (blocks cs)))
+      (if_chosen rules.choice.e (cond (fits cs rules.bound (elimination cs next x)) (Some (elimination cs next x)) None))
+  unfolding test fitting first_of_rest
+  first_of_rest-kinds =
+      find-append test (blocks cs) (elimination cs next x ∷ [])
+      ∙ ap (λ o. option_or o (find test (elimination cs next x ∷ []))) (find-chosen rules.choice.b test fitting (blocks cs) block-chosen)
+      ∙ ap (option_or (if_chosen rules.choice.b (find fitting (blocks cs)))) elimination-chosen
 
   -- ---- branch by branch, where the kinds are tried in turn
 

@@ -1,0 +1,4 @@
+mod Fitting
+mod Pairs
+mod Searching
+mod Exact

@@ -1,0 +1,52 @@
+use Rattle.std.proofs.Common.{◌≡◌, Option, Some, None, sym, ◌∙◌, ap}
+use Rattle.std.specs.Option.{option_map}
+use Rattle.std.proofs.lemmas.Result.{IfOk-weaker}
+use Rattle.cp_logic.specs.declared.entries.Entry.{Entry as HeldEntry}
+use Rattle.cp_logic.specs.Entries.{Entry}
+use Rattle.cp_logic.specs.Legality.{first_in}
+use Rattle.cp_logic.specs.Views.{entry_of}
+use Rattle.cp_eliminate.specs.Chosen.{where_chosen}
+use Rattle.cp_eliminate.specs.Eliminating.{elimination_within}
+use Rattle.cp_eliminate.proofs.Searching.{is-taut, is-subsumption, is-strengthening, is-blocked, after-blocked}
+use Rattle.cp_eliminate.proofs.kinds.search.Goals as goal
+
+-- what a kind gave, as what it is
+found : (o : Option HeldEntry) (e : HeldEntry) (q : Option Entry) → o ≡ Some e → option_map entry_of o ≡ q → Some (entry_of e) ≡ q
+found o e q s h = sym (ap (option_map entry_of) s) ∙ h
+
+nothing : (o : Option HeldEntry) (q : Option Entry) → o ≡ None → option_map entry_of o ≡ q → None ≡ q
+nothing o q s h = sym (ap (option_map entry_of) s) ∙ h
+
+pub returns-in-Some : goal.returns-in-Some
+returns-in-Some c = is-taut c.args.cell.now.clauses c.args.rules.now c.args.next c.args.cell.now.variable (entry_of c.in-Some.entry)
+    (found c.in_ok-entry.field-0 c.in-Some.entry _ c.in-Some.is c.in_ok-entry.ensures)
+
+pub returns-in-Some-2 : goal.returns-in-Some-2
+returns-in-Some-2 c = is-subsumption c.args.cell.now.clauses c.args.rules.now c.args.next c.args.cell.now.variable (entry_of c.in-Some-2.entry)
+    (nothing c.in_ok-entry.field-0 _ c.in_default.is c.in_ok-entry.ensures)
+    (found c.in_ok-entry-2.field-0 c.in-Some-2.entry _ c.in-Some-2.is c.in_ok-entry-2.ensures)
+
+pub returns-in-Some-3 : goal.returns-in-Some-3
+returns-in-Some-3 c = is-strengthening c.args.cell.now.clauses c.args.rules.now c.args.next c.args.cell.now.variable (entry_of c.in-Some-3.entry)
+    (nothing c.in_ok-entry.field-0 _ c.in_default.is c.in_ok-entry.ensures)
+    (nothing c.in_ok-entry-2.field-0 _ c.in_default-2.is c.in_ok-entry-2.ensures)
+    (found c.in_ok-entry-3.field-0 c.in-Some-3.entry _ c.in-Some-3.is c.in_ok-entry-3.ensures)
+
+pub returns-in-Some-4 : goal.returns-in-Some-4
+returns-in-Some-4 c = is-blocked c.args.cell.now.clauses c.args.rules.now c.args.next c.args.cell.now.variable (entry_of c.in-Some-4.entry)
+    (nothing c.in_ok-entry.field-0 _ c.in_default.is c.in_ok-entry.ensures)
+    (nothing c.in_ok-entry-2.field-0 _ c.in_default-2.is c.in_ok-entry-2.ensures)
+    (nothing c.in_ok-entry-3.field-0 _ c.in_default-3.is c.in_ok-entry-3.ensures)
+    (found c.in_ok-entry-4.field-0 c.in-Some-4.entry _ c.in-Some-4.is c.in_ok-entry-4.ensures)
+
+pub returns : goal.returns
+returns c =
+    let x = c.args.cell.now.variable in let cs = c.args.cell.now.clauses in
+    IfOk-weaker c.chosen_elimination.result (λ found. option_map entry_of found ≡ where_chosen c.args.rules.now.choice.e (elimination_within cs c.args.rules.now.bound c.args.next x))
+    (λ found. option_map entry_of found ≡ first_in cs c.args.rules.now c.args.next x)
+    (λ found h. h ∙ after-blocked cs c.args.rules.now c.args.next x
+    (nothing c.in_ok-entry.field-0 _ c.in_default.is c.in_ok-entry.ensures)
+    (nothing c.in_ok-entry-2.field-0 _ c.in_default-2.is c.in_ok-entry-2.ensures)
+    (nothing c.in_ok-entry-3.field-0 _ c.in_default-3.is c.in_ok-entry-3.ensures)
+    (nothing c.in_ok-entry-4.field-0 _ c.in_default-4.is c.in_ok-entry-4.ensures))
+    c.chosen_elimination.ensures

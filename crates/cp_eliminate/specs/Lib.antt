@@ -1,0 +1,4 @@
+pub mod Eliminating
+pub mod Resolvents
+pub mod Chosen
+pub mod Laws

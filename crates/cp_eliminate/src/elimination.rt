@@ -1,0 +1,81 @@
+//! Bounded variable elimination: the clauses of a variable are replaced by their resolvents on it, where these are few enough.
+//!
+//! Resolving every clause that has the variable with every clause that has its negation, and dropping them all, is the step of
+//! Davis and Putnam (1960). It can square the number of clauses each time, so NiVER (Subbarayan and Pradhan, SAT 2004, "NiVER: Non
+//! Increasing Variable Elimination Resolution for Preprocessing SAT Instances") does it only where it adds no clause, and SatELite
+//! (Een and Biere, SAT 2005, "Effective Preprocessing in SAT through Variable and Clause Elimination") joins it with subsumption.
+//! MiniSat's `eliminateVar` has that bound with a `grow` on top, and CaDiCaL's `elim.cpp` a bound that it raises from 0 to 16
+//! as rounds go by. Here the bound is by how many clauses the step may add more than it takes out, tautologies not counted.
+//!
+//! Most tries fail, so a try must be cheap. As in those solvers the resolvents are counted before any is built: a pair is told to
+//! give a tautology by one pass over both clauses with no memory taken, and the count stops at the first resolvent above the bound,
+//! so that a variable that occurs often costs about as many pairs as it has clauses, tautologies apart. The two sides are split
+//! once, as loans from the cell, and a clause is copied only for an elimination that goes through. MiniSat and CaDiCaL also refuse
+//! where a resolvent is long, and CaDiCaL where the variable occurs very often; no such limit is in the rules here, so that what is
+//! eliminated depends on the clauses and the bound alone. CaDiCaL looks for definitions of the variable (gates) besides, which
+//! leave out resolvents that others imply; here subsumption and strengthening take those. A variable that occurs in one sign only
+//! has no resolvent, so its clauses just go: pure literals need no rule of their own.
+//!
+//! A tautology among the variable's clauses would give resolvents that still have the variable, so there must be none.
+ghost use Rattle.std.specs.Prelude.{◌≡◌, ◌≤◌, ◌^◌, IfOk};
+ghost use Rattle.std.specs.List.{list_any};
+ghost use Rattle.std.specs.Option.{option_map};
+ghost use Rattle.cp_logic.specs.Clauses.{is_tautology};
+ghost use Rattle.cp_logic.specs.Views.{entry_of};
+ghost use Rattle.cp_eliminate.specs.Eliminating.{elimination_within, is_within};
+
+use crate::lent::{Lent, copies, gathered};
+use crate::resolvents::{are_at_most, numbered_resolvents};
+use cp_logic::Entry;
+use cp_occ::Cell;
+use std::alloc::{AllocError, Global};
+
+/// The elimination of the cell's variable, its resolvents numbered from `next` on; or `None` where the cell has no clause or a
+/// tautology, or where the resolvents would be more than the clauses and `bound` besides.
+///
+/// The error comes for want of memory, which is also the answer where a resolvent's number would pass a `u64`.
+pub fn try_eliminate(
+    alloc: Global,
+    cell: &Cell,
+    bound: u64,
+    next: u64,
+) -> Result<Option<Entry>, AllocError>
+    requires { next ≤ 2 ^ 40 }
+    ensures { IfOk result (λ o. option_map entry_of o ≡ elimination_within cell.now.clauses bound next cell.now.variable) }
+{
+    let var = cell.var();
+    if has_tautology(cell) {
+        return Ok(None);
+    }
+    let pos = gathered(alloc, cell.pos())?;
+    let neg = gathered(alloc, cell.neg())?;
+    if !is_within(&pos, &neg, var, bound) {
+        return Ok(None);
+    }
+    let new = numbered_resolvents(alloc, &pos, &neg, var, next)?;
+    let pos = copies(alloc, &pos)?;
+    let neg = copies(alloc, &neg)?;
+    Ok(Some(Entry::Eliminate { var, pos, neg, new }))
+}
+
+// Whether a clause of the cell is a tautology.
+fn has_tautology(cell: &Cell) -> bool
+    ensures { result ≡ list_any (λ c. is_tautology c.clause) cell.now.clauses }
+{
+    for (_, clause) in cell.iter() {
+        if clause.is_tautology() {
+            return true;
+        }
+    }
+    false
+}
+
+// Whether there is a clause, and the resolvents are at most as many as the clauses and the bound, whose sum may pass a `u64`.
+fn is_within(pos: &[Lent<'_>], neg: &[Lent<'_>], var: u32, bound: u64) -> bool
+    requires low { 1 ≤ var }
+    requires high { var ≤ 2000000 }
+    ensures { result ≡ is_within var bound pos.now neg.now }
+{
+    let clauses = pos.len() as u128 + neg.len() as u128;
+    clauses > 0 && are_at_most(pos, neg, var, clauses + u128::from(bound))
+}
