@@ -1,9 +1,9 @@
 //! What an entry does to the current clauses and to the stack.
-ghost use Rattle.std.specs.Prelude.{◌≡◌, ◌+◌, ◌^◌, ◌≤◌, map, length, if◌then◌else◌, IfOk, IfSome, IsFalse};
+ghost use Rattle.std.specs.Prelude.{◌≡◌, ◌+◌, ◌^◌, ◌≤◌, map, length, if◌then◌else◌, IfOk, IfSome};
 ghost use Rattle.std.specs.List.{All};
 ghost use Rattle.cp_logic.specs.Literals.{positive, negative};
 ghost use Rattle.cp_logic.specs.Formulas.{IsWithin, clauses_of};
-ghost use Rattle.cp_logic.specs.Entries.{expand, new_clauses, is_look};
+ghost use Rattle.cp_logic.specs.Entries.{expand, new_clauses};
 ghost use Rattle.cp_logic.specs.Rules.{Weaken, IsAllowed, applied, state_after, IsRun};
 ghost use Rattle.cp_logic.specs.Journals.{number_limit};
 ghost use Rattle.cp_logic.specs.Views.{entry_of};

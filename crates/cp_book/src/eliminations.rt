@@ -2,7 +2,7 @@
 //!
 //! Each goes over all clauses of the formula and takes no memory: a resolvent is compared with the clause that stands for it
 //! and isn't built.
-ghost use Rattle.std.specs.Prelude.{◌≡◌, ◌+◌, ◌≤◌, nat_le, ◌++◌, List, ℕ, false, IfSome, IfNone, length};
+ghost use Rattle.std.specs.Prelude.{◌≡◌, ◌+◌, nat_le, ◌++◌, List, ℕ, false, IfSome, IfNone};
 ghost use Rattle.cp_logic.specs.Literals.{positive};
 ghost use Rattle.cp_logic.specs.Clauses.{has_variable};
 ghost use Rattle.cp_logic.specs.Formulas.{clauses_of};
