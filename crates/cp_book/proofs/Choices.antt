@@ -1,30 +1,28 @@
 -- The answer to an entry that passed the first tests, and why a book is stopped.
-use Rattle.std.proofs.Common.{◌≡◌, Bool, true, false, cond, length, Some, None, sym, ◌∙◌, ap}
+use Rattle.std.proofs.Common.{◌≡◌, Bool, false, cond, length, Some, None, sym, ◌∙◌, ap}
 use Rattle.std.specs.Prelude.{is_some}
 use Rattle.cp_logic.specs.declared.settings.Stop.TheVariants.{Spent as StopSpent, Refuted as StopRefuted}
 use Rattle.cp_logic.specs.Entries.{Entry, numbered}
 use Rattle.cp_logic.specs.Legality.{is_legal}
 use Rattle.cp_logic.specs.Journals.{commits}
 use Rattle.cp_logic.specs.Sweeps.{is_spent}
-use Rattle.cp_book.specs.Kinds.{removes_implied}
 use Rattle.cp_book.specs.Empties.{least_empty}
 use Rattle.cp_book.specs.Views.{BookView, current, stop_in}
 use Rattle.cp_book.specs.Answers.{Answer, Posted, Spent, Numbers, Stale, unless_empty, passes_numbers, answer_to}
 use Rattle.cp_book.proofs.EmptyFacts.{has_empty-least}
-use Rattle.cp_book.proofs.Implied.{legal-numbered}
 
 -- the answer by what the tests give
 abbrev by_tests : BookView → Entry → Bool → Bool → Bool → Answer
 by_tests b e spent passes legal =
     cond spent (Spent (commits b.posts) e) (cond passes (Numbers (current b).next e) (cond legal (Posted (length b.posts)) (Stale e)))
 
-pub answer-tested : (b : BookView) (e : Entry) (legal : Bool) → removes_implied e ≡ true → least_empty (current b).clauses ≡ None → is_spent b.rules (commits b.posts) ≡ false → passes_numbers (current b) e ≡ false
-    → is_legal (current b) b.rules e ≡ legal → cond legal (Posted (length b.posts)) (Stale e) ≡ answer_to b e
-answer-tested b e legal kind none unspent room l =
+pub answer-tested : (b : BookView) (e : Entry) (legal : Bool) → least_empty (current b).clauses ≡ None → is_spent b.rules (commits b.posts) ≡ false → passes_numbers (current b) e ≡ false
+    → is_legal (current b) b.rules (numbered (current b).next e) ≡ legal → cond legal (Posted (length b.posts)) (Stale e) ≡ answer_to b e
+answer-tested b e legal none unspent room l =
     sym (ap (λ o. unless_empty o e (by_tests b e (is_spent b.rules (commits b.posts)) (passes_numbers (current b) e) (is_legal (current b) b.rules (numbered (current b).next e)))) none
     ∙ ap (λ s. by_tests b e s (passes_numbers (current b) e) (is_legal (current b) b.rules (numbered (current b).next e))) unspent
     ∙ ap (λ p. by_tests b e false p (is_legal (current b) b.rules (numbered (current b).next e))) room
-    ∙ ap (by_tests b e false false) (legal-numbered (current b) b.rules (current b).next e kind ∙ l))
+    ∙ ap (by_tests b e false false) l)
 
 -- why it is stopped, by whether there is an empty clause and whether the budget is spent
 pub stop-tested : (b : BookView) (empty spent : Bool) → is_some (least_empty (current b).clauses) ≡ empty → is_spent b.rules (commits b.posts) ≡ spent

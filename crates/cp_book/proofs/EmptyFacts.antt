@@ -1,17 +1,15 @@
 -- Where the empty clauses are.
-use Rattle.std.proofs.Common.{◌≡◌, ℕ, Bool, true, false, cond, not, ◌||◌, List, [], ◌∷◌, ◌++◌, Some, None, refl, sym, ◌∙◌, ap}
-use Rattle.std.specs.Prelude.{is_some}
+use Rattle.std.proofs.Common.{◌≡◌, ℕ, ◌+◌, ◌<◌, length, drop, get_or, arith, Bool, true, false, cond, not, ◌||◌, List, [], ◌∷◌, ◌++◌, Some, None, refl, sym, ◌∙◌, ap}
+use Rattle.std.specs.Prelude.{is_some, ◌==◌}
 use Rattle.std.specs.Option.{option_map}
 use Rattle.std.specs.List.{Contains, find}
-use Rattle.std.proofs.lemmas.Bool.{and_parts, not-true, false_from_ne_true, false≢true}
+use Rattle.std.proofs.lemmas.Bool.{false_from_ne_true, false≢true, ne_eqb}
 use Rattle.cp_logic.specs.declared.named.Named.{Named}
-use Rattle.cp_logic.specs.declared.settings.Rules.{Rules}
 use Rattle.cp_logic.specs.Clauses.{contains, is_empty}
-use Rattle.cp_logic.specs.Formulas.{Formula, has_empty, without_numbers}
-use Rattle.cp_logic.specs.Entries.{Entry}
-use Rattle.cp_logic.specs.Legality.{is_legal_in, is_legal}
+use Rattle.cp_logic.specs.Formulas.{has_empty, without_numbers}
 use Rattle.cp_logic.proofs.Members.{any_from, of_filter, in_here, in_later}
 use Rattle.cp_book.specs.Empties.{least_empty}
+use Rattle.cp_book.proofs.ReadFacts.{drop-at}
 
 abbrev empty_clause : Named → Bool
 empty_clause c = is_empty c.clause
@@ -24,11 +22,6 @@ has_empty-least (c ∷ cs) = go (is_empty c.clause) (has_empty-least cs)
     go : (b : Bool) → has_empty cs ≡ is_some (least_empty cs) → (b || has_empty cs) ≡ is_some (option_map (λ (d : Named). d.number) (cond b (Some c) (find empty_clause cs)))
     go true more = refl
     go false more = more
-
--- a legal entry finds no empty clause
-pub none_empty-legal : (f : Formula) (rules : Rules) (e : Entry) → is_legal f rules e ≡ true → has_empty f.clauses ≡ false
-unfolding is_legal
-none_empty-legal f rules e h = not-true (has_empty f.clauses) (and_parts (not (has_empty f.clauses)) (is_legal_in f.clauses rules e) h).0
 
 -- where no clause is empty, there is no least number of one
 pub no_empty-least : (cs : List Named) → least_empty cs ≡ None → has_empty cs ≡ false
@@ -48,3 +41,12 @@ least_empty-changed cs new numbers h =
   where
     no : (c : Named) → Contains cs c → empty_clause c ≡ true → ⊥
     no c i t = false≢true (sym h ∙ any_from empty_clause cs c i t)
+
+-- a clause is passed that is not empty
+pub least_empty-read : (cs : List Named) (i : ℕ) (c : Named) → i < length cs → c ≡ get_or cs i c → is_empty c.clause ≡ false → least_empty (drop (i + 1) cs) ≡ least_empty (drop i cs)
+least_empty-read cs i c h e n =
+    ap (λ b. option_map (λ (d : Named). d.number) (cond b (Some c) (find empty_clause (drop (i + 1) cs)))) (sym n) ∙ ap least_empty (sym (drop-at cs i c h e))
+
+pub empty-length : (ls : List ℕ) → (length ls == 0) ≡ is_empty ls
+empty-length [] = refl
+empty-length (l ∷ ls) = ne_eqb (length (l ∷ ls)) 0 (omega arith)

@@ -1,6 +1,10 @@
+pub mod ReadFacts
+pub mod Matching
+pub mod Parents
+pub mod RuleRuns
 pub mod Standing
 pub mod Subsets
 pub mod EmptyFacts
-pub mod Implied
+pub mod Commits
 pub mod Ledger
 pub mod Choices

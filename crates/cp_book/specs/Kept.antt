@@ -1,11 +1,11 @@
 -- What a book keeps true of its parts.
-use Rattle.std.specs.Prelude.{◌≡◌, ◌≤◌, ◌⊎◌, ℕ, Option, Some, None, List}
+use Rattle.std.specs.Prelude.{◌≡◌, ◌≤◌, ◌⊎◌, ℕ, Option, Some, None, List, length}
 use Rattle.cp_logic.specs.declared.settings.Rules.{Rules}
 use Rattle.cp_logic.specs.Assignments.{Pair}
-use Rattle.cp_logic.specs.Formulas.{Formula, IsFormula}
-use Rattle.cp_logic.specs.Entries.{Entry}
+use Rattle.cp_logic.specs.Formulas.{Formula, IsFormula, clauses_of}
+use Rattle.cp_logic.specs.Entries.{Entry, new_clauses}
 use Rattle.cp_logic.specs.Journals.{Post, IsLegalJournal, folded, commits}
-use Rattle.cp_book.specs.Kinds.{clause_added}
+use Rattle.cp_book.specs.Changes.{weakened}
 use Rattle.cp_book.specs.Empties.{least_empty}
 
 -- the journal is legal from the first formula, and the current formula, the pairs over its variables, the count of commits
@@ -20,7 +20,8 @@ pub record IsLedger (first : Formula) (rules : Rules) (posts : List Post) (now :
   pub in_budget : (rules.budget ≡ 0) ⊎ (count ≤ rules.budget)
   pub empty : least ≡ least_empty now.clauses
 
--- there is room for a post of the entry, and a copy of the clause that it adds
-abbrev pub IsReady : Option Entry → ℕ → ℕ → Option (List ℕ) → Type 0
-IsReady None posts clauses copy = Unit {0}
-IsReady (Some e) posts clauses copy = (1 ≤ posts) × (1 ≤ clauses) × (copy ≡ clause_added e)
+-- there is room for a post of the entry: for the post, its new clauses and its pairs, and copies of the new clauses
+abbrev pub IsReady : Option Entry → ℕ → ℕ → ℕ → List (List ℕ) → Type 0
+IsReady None posts clauses pairs copies = Unit {0}
+IsReady (Some e) posts clauses pairs copies =
+    (1 ≤ posts) × (length (new_clauses e) ≤ clauses) × (length (weakened e) ≤ pairs) × (copies ≡ clauses_of (new_clauses e))

@@ -1,5 +1,5 @@
 pub mod Passes
-pub mod Kinds
+pub mod Changes
 pub mod Empties
 pub mod Views
 pub mod Kept

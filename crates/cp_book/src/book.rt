@@ -1,27 +1,27 @@
 //! The book: a first formula, the rules of a run, and the posts that were made.
 //!
 //! A post takes two steps. `prepare` takes all memory that the post needs, and `post` then takes none, so a refusal for
-//! want of memory comes before anything changes. The first formula is kept only for contracts.
-ghost use Rattle.std.specs.Prelude.{◌≡◌, ◌≤◌, [], ℕ, IsTrue, IsFalse, OnOk, OnErr, IfOk, Some, None, length};
+//! want of memory comes before anything changes. `post_legal` is the post of one who knows already that the entry is legal.
+//! The first formula is kept only for contracts.
+ghost use Rattle.std.specs.Prelude.{◌≡◌, ◌≤◌, [], ℕ, IsTrue, IsFalse, OnOk, OnErr, IfOk, IfErr, Some, None, Err, length};
 ghost use Rattle.cp_logic.specs.Formulas.{IsFormula};
-ghost use Rattle.cp_logic.specs.Legality.{is_legal};
-ghost use Rattle.cp_logic.specs.Entries.{numbered};
+ghost use Rattle.cp_logic.specs.Legality.{is_legal, is_legal_in};
+ghost use Rattle.cp_logic.specs.Entries.{numbered, is_look};
 ghost use Rattle.cp_logic.specs.Journals.{IsLegalJournal, commits};
 ghost use Rattle.cp_logic.specs.Pairs.{pairs_of};
 ghost use Rattle.cp_logic.specs.Sweeps.{is_spent};
 ghost use Rattle.cp_logic.specs.Views.{entry_of};
-ghost use Rattle.cp_book.specs.Kinds.{removes_implied};
 ghost use Rattle.cp_book.specs.Empties.{least_empty};
 ghost use Rattle.cp_book.specs.Views.{current, current_pairs, with_post, stop_in};
 ghost use Rattle.cp_book.specs.Answers.{answer_to, given_answer, passes_numbers};
 
 use crate::answers::PostAnswer;
-use crate::changes::{apply, copy_of_added, empty_added, first_empty};
+use crate::changes::{apply, copies_of_added, empty_added, first_empty, weakened_count};
 use crate::legality::is_legal;
-use crate::numbering::{new_count, numbered};
 use cp_logic::{Clause, Entry, Formula, Journal, Post, Rules, Stack, Stop};
 use std::alloc::{AllocError, Global};
 use std::marker::Model;
+use std::mem;
 use std::snapshot::Snapshot;
 
 // The largest number that the next clause may have: no clause has it, or one above it.
@@ -42,8 +42,8 @@ pub struct Book {
     // The least number of an empty clause. Nothing is posted once there is one.
     empty: Option<u64>,
     prepared: Option<Snapshot<Entry>>,
-    // A second clause of those literals that the prepared entry adds.
-    copy: Option<Clause>,
+    // Copies of the clauses that the prepared entry adds.
+    copies: Vec<Clause>,
 }
 
 impl Model for Book {
@@ -66,7 +66,7 @@ impl Model for Book {
 
     ghost invariant = { λ b.
         IsLedger b.first.value.formula b.rules b.journal.items b.formula.formula (pairs_of b.stack.pairs) b.stack.vars b.commits b.empty
-        × IsReady (option_map (λ s. entry_of s.value) b.prepared) b.journal.spare b.formula.spare b.copy };
+        × IsReady (option_map (λ s. entry_of s.value) b.prepared) b.journal.spare b.formula.spare b.stack.pairs.spare b.copies.items };
 }
 
 impl Book {
@@ -85,50 +85,58 @@ impl Book {
             stack: Stack::new(alloc, vars),
             commits: 0,
             prepared: None,
-            copy: None,
+            copies: Vec::new(alloc),
         })
     }
 
-    /// Makes room for one post of such an entry, and the copy that the post keeps. On a refusal the book is prepared for none.
+    /// Makes room for one post of the entry, and copies of its new clauses, since the journal keeps the entry's own. On a refusal
+    /// the book is prepared for none.
     pub fn prepare(&mut self, entry: &Entry) -> Result<(), AllocError>
-        requires { IsTrue (removes_implied (entry_of entry.now)) }
+        requires { IsFalse (is_look (entry_of entry.now)) }
         ensures same { self.new ≡ record self.old { prepared = self.new.prepared } }
         ensures ok { OnOk result (self.new.prepared ≡ Some (entry_of entry.now)) }
     {
         self.prepared = None;
         self.journal.reserve(1)?;
-        self.formula.reserve(1)?;
-        self.copy = copy_of_added(self.alloc, entry)?;
+        self.formula.reserve(entry.new_count() as usize)?;
+        let pairs = weakened_count(entry).ok_or(AllocError)?;
+        self.stack.reserve(pairs)?;
+        self.copies = copies_of_added(self.alloc, entry)?;
         self.prepared = Some(Snapshot::of(entry));
         Ok(())
     }
 
-    /// Posts the entry, its new clause numbered from the book's next number on, and answers the position of the post.
+    /// Posts the entry, its new clauses numbered from the book's next number on, and answers the position of the post.
     ///
     /// It takes no memory. Each refusal hands the entry back and leaves the book as it was. They come in this order:
     /// `Refuted` where a current clause is empty, `Spent` where the commits number the budget, `Numbers` where a new clause
-    /// would pass the last clause number, `Stale` where the entry isn't legal.
+    /// would pass the last clause number, `Stale` where the entry isn't legal. A blocked clause and an elimination are tested
+    /// on all current clauses, since the book has no occurrence lists; for the other entries those that they name are enough.
     pub fn post(&mut self, worker: u32, round: u32, entry: Entry) -> Result<u64, PostAnswer>
-        requires kind { IsTrue (removes_implied (entry_of entry)) }
+        requires commit { IsFalse (is_look (entry_of entry)) }
         requires prepared { self.old.prepared ≡ Some (entry_of entry) }
         ensures answer { given_answer result ≡ answer_to self.old (entry_of entry) }
         ensures ok { OnOk result (self.new ≡ with_post self.old worker round (entry_of entry)) }
         ensures err { OnErr result (self.new ≡ self.old) }
     {
-        if let Some(empty) = self.least_empty() {
-            return Err(PostAnswer::Refuted { empty, entry });
-        }
-        if self.is_spent() {
-            let len = self.commits();
-            return Err(PostAnswer::Spent { len, entry });
-        }
-        if self.passes_numbers(&entry) {
-            let next = self.next();
-            return Err(PostAnswer::Numbers { next, entry });
-        }
+        let entry = self.unless_stopped(entry)?;
         if !self.allows(&entry) {
             return Err(PostAnswer::Stale { entry });
         }
+        Ok(self.append(worker, round, entry))
+    }
+
+    /// Posts the entry as `post` does, where it is known to be legal wherever no clause is empty: nothing of that is tested, so the post
+    /// takes the time of the entry's own clauses. It is never `Stale`.
+    pub fn post_legal(&mut self, worker: u32, round: u32, entry: Entry) -> Result<u64, PostAnswer>
+        requires commit { IsFalse (is_look (entry_of entry)) }
+        requires prepared { self.old.prepared ≡ Some (entry_of entry) }
+        requires legal { IsTrue (is_legal_in (current self.old).clauses self.old.rules (numbered (current self.old).next (entry_of entry))) }
+        ensures answer { given_answer result ≡ answer_to self.old (entry_of entry) }
+        ensures ok { OnOk result (self.new ≡ with_post self.old worker round (entry_of entry)) }
+        ensures err { OnErr result (self.new ≡ self.old) }
+    {
+        let entry = self.unless_stopped(entry)?;
         Ok(self.append(worker, round, entry))
     }
 
@@ -231,37 +239,60 @@ impl Book {
         self.rules.budget != 0 && self.commits == self.rules.budget
     }
 
-    /// Whether the entry's new clause would pass the last clause number, so that `post` refuses it by `Numbers` where the book
+    /// Whether the entry's new clauses would pass the last clause number, so that `post` refuses it by `Numbers` where the book
     /// isn't stopped.
     pub fn passes_numbers(&self, entry: &Entry) -> bool
-        requires { IsTrue (removes_implied (entry_of entry.now)) }
         ensures { result ≡ passes_numbers (current self.now) (entry_of entry.now) }
     {
-        self.formula.next() > NUMBER_LIMIT - new_count(entry)
+        self.formula.next().saturating_add(entry.new_count()) > NUMBER_LIMIT
+    }
+
+    // Hands the entry on, unless the book is stopped for any entry or for this one's numbers.
+    fn unless_stopped(&self, entry: Entry) -> Result<Entry, PostAnswer>
+        ensures same { IfOk result (λ e. e ≡ entry) }
+        ensures open_still { OnOk result (least_empty (current self.now).clauses ≡ None) }
+        ensures unspent { OnOk result (IsFalse (is_spent self.now.rules (commits self.now.posts))) }
+        ensures numbers { OnOk result (IsFalse (passes_numbers (current self.now) (entry_of entry))) }
+        ensures err { IfErr result (λ a. given_answer (Err a) ≡ answer_to self.now (entry_of entry)) }
+    {
+        if let Some(empty) = self.least_empty() {
+            return Err(PostAnswer::Refuted { empty, entry });
+        }
+        if self.is_spent() {
+            let len = self.commits();
+            return Err(PostAnswer::Spent { len, entry });
+        }
+        if self.passes_numbers(&entry) {
+            let next = self.next();
+            return Err(PostAnswer::Numbers { next, entry });
+        }
+        Ok(entry)
     }
 
     // Whether the entry is legal in the current clauses, of which none is empty.
     fn allows(&self, entry: &Entry) -> bool
-        requires kind { IsTrue (removes_implied (entry_of entry.now)) }
+        requires commit { IsFalse (is_look (entry_of entry.now)) }
         requires open_still { least_empty (current self.now).clauses ≡ None }
         ensures { result ≡ is_legal (current self.now) self.now.rules (entry_of entry.now) }
     {
         is_legal(&self.formula, &self.rules, entry)
     }
 
-    // Appends the post of an entry that is legal, and changes the clauses.
+    // Appends the post of an entry that is legal, and changes the clauses and the stack.
     fn append(&mut self, worker: u32, round: u32, entry: Entry) -> u64
-        requires kind { IsTrue (removes_implied (entry_of entry)) }
+        requires commit { IsFalse (is_look (entry_of entry)) }
         requires prepared { self.old.prepared ≡ Some (entry_of entry) }
+        requires open_still { least_empty (current self.old).clauses ≡ None }
         requires unspent { IsFalse (is_spent self.old.rules (commits self.old.posts)) }
         requires numbers { IsFalse (passes_numbers (current self.old) (entry_of entry)) }
-        requires legal { IsTrue (is_legal (current self.old) self.old.rules (entry_of entry)) }
+        requires legal { IsTrue (is_legal_in (current self.old).clauses self.old.rules (numbered (current self.old).next (entry_of entry))) }
         ensures book { self.new ≡ with_post self.old worker round (entry_of entry) }
         ensures position { result ≡ length self.old.posts }
     {
-        let entry = numbered(entry, self.formula.next());
+        let entry = entry.numbered(self.formula.next());
         self.empty = empty_added(&entry);
-        apply(&mut self.formula, &entry, self.copy.take());
+        let copies = mem::replace(&mut self.copies, Vec::new(self.alloc));
+        apply(&mut self.formula, &mut self.stack, &entry, copies);
         self.prepared = None;
         let position = self.journal.push_reserved(Post {
             worker,

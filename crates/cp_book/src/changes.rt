@@ -1,45 +1,125 @@
-//! What an entry does to the current clauses.
-ghost use Rattle.std.specs.Prelude.{◌≡◌, ◌≤◌, IsTrue, IfOk};
+//! What an entry does to the current clauses and to the stack.
+ghost use Rattle.std.specs.Prelude.{◌≡◌, ◌+◌, ◌^◌, ◌≤◌, map, length, if◌then◌else◌, IfOk, IfSome};
+ghost use Rattle.std.specs.List.{All};
+ghost use Rattle.cp_logic.specs.Literals.{positive, negative};
+ghost use Rattle.cp_logic.specs.Formulas.{IsWithin, clauses_of};
 ghost use Rattle.cp_logic.specs.Entries.{expand, new_clauses};
-ghost use Rattle.cp_logic.specs.Rules.{state_after, IsRun};
-ghost use Rattle.cp_logic.specs.Journals.{start_of, number_limit};
+ghost use Rattle.cp_logic.specs.Rules.{Weaken, IsAllowed, applied, state_after, IsRun};
+ghost use Rattle.cp_logic.specs.Journals.{number_limit};
 ghost use Rattle.cp_logic.specs.Views.{entry_of};
-ghost use Rattle.cp_book.specs.Kinds.{removes_implied, clause_added};
+ghost use Rattle.cp_book.specs.Changes.{state_of, with_all, weakened};
 ghost use Rattle.cp_book.specs.Empties.{least_empty};
 
-use cp_logic::{Clause, Entry, Formula};
+use cp_logic::{Clause, Entry, Formula, Lit, Named, NamedList, Pair, Stack};
 use std::alloc::{AllocError, Global};
 
-/// A copy of the clause that the entry adds, if it adds one.
-pub(crate) fn copy_of_added(alloc: Global, entry: &Entry) -> Result<Option<Clause>, AllocError>
-    ensures { IfOk result (λ copy. copy ≡ clause_added (entry_of entry.now)) }
+/// Copies of the clauses that the entry adds.
+pub(crate) fn copies_of_added(alloc: Global, entry: &Entry) -> Result<Vec<Clause>, AllocError>
+    ensures { IfOk result (λ copies. copies.items ≡ clauses_of (new_clauses (entry_of entry.now))) }
+{
+    let mut copies = Vec::new(alloc);
+    match entry {
+        Entry::Strengthen { new, .. } => copies.push(new.clause.again(alloc)?)?,
+        Entry::Eliminate { new, .. } => return copies_of(alloc, new),
+        _ => {}
+    }
+    Ok(copies)
+}
+
+// Copies of the clauses of the list.
+fn copies_of(alloc: Global, list: &NamedList) -> Result<Vec<Clause>, AllocError>
+    ensures { IfOk result (λ copies. copies.items ≡ clauses_of list.now.items) }
+{
+    let mut copies = Vec::new(alloc);
+    copies.reserve(list.len())?;
+    for named in list.as_slice() {
+        copies.push(named.clause.again(alloc)?)?;
+    }
+    Ok(copies)
+}
+
+/// The number of clauses that the entry weakens, unless no `usize` has it.
+pub(crate) fn weakened_count(entry: &Entry) -> Option<usize>
+    ensures { IfSome result (λ n. n ≡ length (weakened (entry_of entry.now))) }
 {
     match entry {
-        Entry::Strengthen { new, .. } => Ok(Some(new.clause.again(alloc)?)),
-        _ => Ok(None),
+        Entry::Block { .. } => Some(1),
+        Entry::Eliminate { pos, neg, .. } => pos.len().checked_add(neg.len()),
+        _ => Some(0),
     }
 }
 
-/// Applies the entry's rules to the formula, given a copy of the clause that it adds. It takes no memory.
-pub(crate) fn apply(formula: &mut Formula, entry: &Entry, copy: Option<Clause>)
-    requires kind { IsTrue (removes_implied (entry_of entry.now)) }
-    requires run { IsRun (start_of formula.old.formula) (expand (entry_of entry.now)) }
-    requires numbers { (state_after (start_of formula.old.formula) (expand (entry_of entry.now))).formula.next ≤ number_limit }
-    requires copied { copy ≡ clause_added (entry_of entry.now) }
-    requires spare { 1 ≤ formula.old.spare }
-    ensures { formula.new.formula ≡ (state_after (start_of formula.old.formula) (expand (entry_of entry.now))).formula }
+/// Applies the entry's rules to the formula and the stack, given copies of the clauses that it adds. It takes no memory.
+///
+/// A clause that is weakened goes to the stack as it comes out of the formula.
+pub(crate) fn apply(formula: &mut Formula, stack: &mut Stack, entry: &Entry, copies: Vec<Clause>)
+    requires variables { stack.old.vars ≡ formula.old.formula.variables }
+    requires run { IsRun (state_of formula.old.formula stack.old.pairs) (expand (entry_of entry.now)) }
+    requires numbers { formula.old.formula.next + length (new_clauses (entry_of entry.now)) ≤ number_limit }
+    requires copied { copies.items ≡ clauses_of (new_clauses (entry_of entry.now)) }
+    requires clauses { length (new_clauses (entry_of entry.now)) ≤ formula.old.spare }
+    requires pairs { length (weakened (entry_of entry.now)) ≤ stack.old.pairs.spare }
+    ensures state { state_of formula.new.formula stack.new.pairs ≡ state_after (state_of formula.old.formula stack.old.pairs) (expand (entry_of entry.now)) }
+    ensures variables { stack.new.vars ≡ stack.old.vars }
 {
     match entry {
         Entry::Taut { gone } | Entry::Subsume { gone, .. } => {
             formula.remove(gone.number);
         }
         Entry::Strengthen { on, .. } => {
-            if let Some(clause) = copy {
-                formula.push_reserved(clause);
-            }
+            push_all(formula, copies);
             formula.remove(on.number);
         }
-        Entry::Block { .. } | Entry::Eliminate { .. } | Entry::Look { .. } => unreachable!(),
+        Entry::Block { gone, lit } => weaken(formula, stack, gone, *lit),
+        Entry::Eliminate { var, pos, neg, .. } => {
+            push_all(formula, copies);
+            weaken_all(formula, stack, pos, *var, true);
+            weaken_all(formula, stack, neg, *var, false);
+        }
+        Entry::Look { .. } => {}
+    }
+}
+
+// Adds the clauses, each under the next number.
+fn push_all(formula: &mut Formula, clauses: Vec<Clause>)
+    requires spare { length clauses.items ≤ formula.old.spare }
+    requires numbers { formula.old.formula.next + length clauses.items ≤ 2 ^ 40 }
+    requires within { All (IsWithin formula.old.formula.variables) clauses.items }
+    ensures { formula.new.formula ≡ with_all formula.old.formula clauses.items }
+{
+    for clause in clauses {
+        formula.push_reserved(clause);
+    }
+}
+
+// Weakens the clauses on the variable or its negation, which they have, one after the other.
+fn weaken_all(formula: &mut Formula, stack: &mut Stack, gone: &NamedList, var: u32, sign: bool)
+    requires variables { stack.old.vars ≡ formula.old.formula.variables }
+    requires run { IsRun (state_of formula.old.formula stack.old.pairs) (map (λ c. Weaken c (if sign then positive var else negative var)) gone.now.items) }
+    requires room { length gone.now.items ≤ stack.old.pairs.spare }
+    ensures state { state_of formula.new.formula stack.new.pairs ≡ state_after (state_of formula.old.formula stack.old.pairs) (map (λ c. Weaken c (if sign then positive var else negative var)) gone.now.items) }
+    ensures variables { stack.new.vars ≡ stack.old.vars }
+    ensures room { stack.new.pairs.spare + length gone.now.items ≡ stack.old.pairs.spare }
+{
+    for named in gone.as_slice() {
+        let _ = formula.vars();
+        weaken(formula, stack, named, Lit::new(var, sign));
+    }
+}
+
+// Takes the clause out of the formula, and pushes it with its literal.
+fn weaken(formula: &mut Formula, stack: &mut Stack, gone: &Named, lit: Lit)
+    requires variables { stack.old.vars ≡ formula.old.formula.variables }
+    requires allowed { IsAllowed formula.old.formula (Weaken gone.now lit) }
+    requires room { 1 ≤ stack.old.pairs.spare }
+    ensures state { state_of formula.new.formula stack.new.pairs ≡ applied (state_of formula.old.formula stack.old.pairs) (Weaken gone.now lit) }
+    ensures variables { stack.new.vars ≡ stack.old.vars }
+    ensures room { stack.new.pairs.spare + 1 ≡ stack.old.pairs.spare }
+{
+    let _ = formula.vars();
+    match formula.remove(gone.number) {
+        Some(clause) => stack.push_reserved(Pair::new(lit, clause)),
+        None => unreachable!(),
     }
 }
 
@@ -55,13 +135,25 @@ pub(crate) fn first_empty(formula: &Formula) -> Option<u64>
     None
 }
 
-/// The number of the entry's new clause, if it has one and that is empty.
+/// The number of the first of the entry's new clauses that is empty, if there is one.
 pub(crate) fn empty_added(entry: &Entry) -> Option<u64>
-    requires { IsTrue (removes_implied (entry_of entry.now)) }
     ensures { result ≡ least_empty (new_clauses (entry_of entry.now)) }
 {
     match entry {
         Entry::Strengthen { new, .. } if new.clause.lits().is_empty() => Some(new.number),
+        Entry::Eliminate { new, .. } => first_empty_of(new),
         _ => None,
     }
+}
+
+// The number of the first empty clause of the list, if it has one.
+fn first_empty_of(list: &NamedList) -> Option<u64>
+    ensures { result ≡ least_empty list.now.items }
+{
+    for named in list.as_slice() {
+        if named.clause.lits().is_empty() {
+            return Some(named.number);
+        }
+    }
+    None
 }

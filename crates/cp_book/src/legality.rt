@@ -1,25 +1,26 @@
-//! Whether an entry is legal in a formula, decided from the clauses that it names.
+//! Whether an entry is legal in a formula, as a post tests it that isn't known to be legal.
 //!
-//! A clause that an entry names is looked up by its number, so no step costs more than the named clauses.
-ghost use Rattle.std.specs.Prelude.{◌≡◌, ℕ, ◌==◌, ◌&&◌, not, false, IsTrue};
+//! A clause that an entry names is looked up by its number. A formula has no occurrence lists: so whether a clause is blocked,
+//! and what the clauses of an eliminated variable are, is found by going over all clauses.
+ghost use Rattle.std.specs.Prelude.{◌≡◌, ℕ, ◌==◌, ◌&&◌, not, false, IsFalse};
 ghost use Rattle.cp_logic.specs.Clauses.{without, is_subset, IsAscending};
 ghost use Rattle.cp_logic.specs.Formulas.{has_empty};
-ghost use Rattle.cp_logic.specs.Entries.{Taut, Subsume, Strengthen};
+ghost use Rattle.cp_logic.specs.Entries.{Taut, Subsume, Strengthen, Block, is_look};
 ghost use Rattle.cp_logic.specs.Legality.{same_literals, stands, is_chosen, fits, is_legal};
 ghost use Rattle.cp_logic.specs.Views.{entry_of};
 ghost use Rattle.cp_book.specs.Passes.{literals_from};
-ghost use Rattle.cp_book.specs.Kinds.{removes_implied};
 
+use crate::eliminations::{fits_eliminate, has_tautology_at, is_blocked};
 use cp_logic::{Choice, Entry, Formula, Lit, Named, Rules};
 
 /// Whether the entry is legal in the formula, which has no empty clause.
 #[tactic(auto, unfolding(cp_logic::specs::Legality::is_legal, cp_logic::specs::Legality::is_legal_in))]
 pub(crate) fn is_legal(formula: &Formula, rules: &Rules, entry: &Entry) -> bool
-    requires kind { IsTrue (removes_implied (entry_of entry.now)) }
+    requires commit { IsFalse (is_look (entry_of entry.now)) }
     requires open_still { has_empty formula.now.formula.clauses ≡ false }
     ensures { result ≡ is_legal formula.now.formula rules.now (entry_of entry.now) }
 {
-    is_chosen(&rules.choice, entry) && fits(formula, entry)
+    is_chosen(&rules.choice, entry) && fits(formula, rules.bound, entry)
 }
 
 // Whether the entry's technique is chosen.
@@ -36,16 +37,20 @@ fn is_chosen(choice: &Choice, entry: &Entry) -> bool
     }
 }
 
-// Whether the entry fits the clauses, under any bound.
-fn fits(formula: &Formula, entry: &Entry) -> bool
-    requires { IsTrue (removes_implied (entry_of entry.now)) }
-    ensures { (bound : ℕ) → result ≡ fits formula.now.formula.clauses bound (entry_of entry.now) }
+// Whether the entry fits the clauses, under the bound.
+#[tactic(auto, unfolding(cp_logic::specs::Legality::fits))]
+fn fits(formula: &Formula, bound: u64, entry: &Entry) -> bool
+    ensures { result ≡ fits formula.now.formula.clauses bound (entry_of entry.now) }
 {
     match entry {
         Entry::Taut { gone } => fits_taut(formula, gone),
         Entry::Subsume { by, gone } => fits_subsume(formula, by, gone),
         Entry::Strengthen { by, on, lit, new } => fits_strengthen(formula, by, on, *lit, new),
-        Entry::Block { .. } | Entry::Eliminate { .. } | Entry::Look { .. } => unreachable!(),
+        Entry::Block { gone, lit } => fits_block(formula, gone, *lit),
+        Entry::Eliminate { var, pos, neg, new } => {
+            fits_eliminate(formula, bound, *var, pos, neg, new)
+        }
+        Entry::Look { .. } => false,
     }
 }
 
@@ -72,6 +77,16 @@ fn fits_strengthen(formula: &Formula, by: &Named, on: &Named, lit: Lit, new: &Na
         && by.clause.contains(lit.negated())
         && is_without(new.clause.lits(), on.clause.lits(), lit)
         && is_subset_without(by.clause.lits(), lit.negated(), new.clause.lits())
+}
+
+#[tactic(auto, unfolding(cp_logic::specs::Legality::fits))]
+fn fits_block(formula: &Formula, gone: &Named, lit: Lit) -> bool
+    ensures { (bound : ℕ) → result ≡ fits formula.now.formula.clauses bound (Block gone.now lit) }
+{
+    stands(formula, gone)
+        && gone.clause.contains(lit)
+        && !has_tautology_at(formula, lit.var())
+        && is_blocked(formula, &gone.clause, lit)
 }
 
 // Whether both stand in the formula, under two numbers.

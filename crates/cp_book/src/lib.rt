@@ -8,11 +8,11 @@
 mod answers;
 mod book;
 mod changes;
+mod eliminations;
 mod legality;
-mod numbering;
+mod resolvents;
 #[cfg(test)]
 mod tests;
 
 pub use answers::PostAnswer;
 pub use book::Book;
-pub use numbering::numbered;
