@@ -39,7 +39,7 @@ pub fn first_blocked(alloc: Global, cell: &Cell) -> Result<Option<Entry>, AllocE
     for (number, clause) in cell.iter() {
         let lit = literal_at(clause, var);
         if is_blocked(cell, clause, lit) {
-            let clause = clause.again(alloc)?;
+            let clause = clause.again()?;
             let gone = Named { number, clause };
             return Ok(Some(Entry::Block { gone, lit }));
         }

@@ -19,7 +19,7 @@ pub(crate) fn copies_of_added(alloc: Global, entry: &Entry) -> Result<Vec<Clause
 {
     let mut copies = Vec::new(alloc);
     match entry {
-        Entry::Strengthen { new, .. } => copies.push(new.clause.again(alloc)?)?,
+        Entry::Strengthen { new, .. } => copies.push(new.clause.again()?)?,
         Entry::Eliminate { new, .. } => return copies_of(alloc, new),
         _ => {}
     }
@@ -33,7 +33,7 @@ fn copies_of(alloc: Global, list: &NamedList) -> Result<Vec<Clause>, AllocError>
     let mut copies = Vec::new(alloc);
     copies.reserve(list.len())?;
     for named in list.as_slice() {
-        copies.push(named.clause.again(alloc)?)?;
+        copies.push(named.clause.again()?)?;
     }
     Ok(copies)
 }

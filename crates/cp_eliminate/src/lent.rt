@@ -40,7 +40,7 @@ impl<'a> Lent<'a> {
     {
         Ok(Named {
             number: self.number,
-            clause: self.clause.again(alloc)?,
+            clause: self.clause.again()?,
         })
     }
 }
