@@ -1,4 +1,4 @@
 mod Fitting
 mod Pairs
 mod Searching
-mod Exact
+pub mod Exact

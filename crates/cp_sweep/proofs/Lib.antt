@@ -3,6 +3,5 @@ mod Entries
 mod Finding
 mod Posting
 mod Rounds
-mod Searching
 mod Turning
 mod UnderWay

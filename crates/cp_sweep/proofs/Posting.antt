@@ -16,22 +16,12 @@ use Rattle.cp_book.specs.declared.answers.PostAnswer.{PostAnswer}
 use Rattle.cp_book.specs.declared.answers.PostAnswer.TheVariants.{Refuted as HeldRefuted, Spent as HeldSpent, Numbers as HeldNumbers, Stale as HeldStale}
 use Rattle.cp_book.specs.Answers.{Answer, Posted, given_answer, answer_to, passes_numbers}
 use Rattle.cp_book.specs.Empties.{least_empty}
-use Rattle.cp_book.specs.Kinds.{removes_implied}
 use Rattle.cp_book.specs.Views.{BookView, current, stop_in, with_post}
 use Rattle.cp_book.proofs.EmptyFacts.{has_empty-least}
 use Rattle.cp_occ.specs.Cells.{CellView, variables_of, lists_of}
-use Rattle.cp_occ.specs.Changes.{replaces_one, lists_after, AreCellsOf}
+use Rattle.cp_occ.specs.Changes.{lists_after, AreCellsOf}
 use Rattle.cp_occ.proofs.Posted.{cells-after}
 use Rattle.cp_sweep.specs.Cursor.{Cursor, Turn, turn_for, after_post, sweep_post}
-
--- the two words for an entry that removes one clause and adds at most one say the same
-pub replaces : (e : Entry) → removes_implied e ≡ true → replaces_one e ≡ true
-replaces (Taut gone) h = h
-replaces (Subsume by gone) h = h
-replaces (Strengthen by on l new) h = h
-replaces (Block gone l) h = h
-replaces (Eliminate x pos neg new) h = h
-replaces (Look x) h = h
 
 -- an answer that posts is no refusal
 pub posted-ok : (r : Result ℕ PostAnswer) (a : Answer) (n : ℕ) → given_answer r ≡ a → a ≡ Posted n → is_err r ≡ false

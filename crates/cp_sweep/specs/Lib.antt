@@ -1,4 +1,3 @@
-pub mod Chosen
 pub mod Cursor
 pub mod Sweeping
 pub mod Swept

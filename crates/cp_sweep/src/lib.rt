@@ -2,11 +2,9 @@
 //! applies.
 //!
 //! `simplify` is the one call for the layer above. It may rely on its contract alone: the journal is legal from the formula and is
-//! its sweep, what is left is the journal's fold, and the stop is that of the definition (`specs/Swept.antt`). So far the
-//! techniques are tautologies, subsumption and strengthening.
+//! its sweep, what is left and the stack are the journal's fold, and the stop is that of the definition (`specs/Swept.antt`).
 #![tactic(auto)]
 
-mod search;
 mod sweep;
 #[cfg(test)]
 mod tests;

@@ -9,30 +9,34 @@
 ghost use Rattle.std.specs.Prelude.{◌≡◌, ◌≤◌, ◌<◌, IfOk, OnOk, IsFalse, IsTrue, Some, None, length};
 ghost use Rattle.std.specs.Option.{option_map};
 ghost use Rattle.cp_logic.specs.Formulas.{IsFormula, has_empty};
-ghost use Rattle.cp_logic.specs.Journals.{IsLegalJournal, number_limit};
-ghost use Rattle.cp_logic.specs.Legality.{first};
+ghost use Rattle.cp_logic.specs.Entries.{is_look, numbered};
+ghost use Rattle.cp_logic.specs.Journals.{IsLegalJournal, folded, number_limit};
+ghost use Rattle.cp_logic.specs.Legality.{first, is_legal_in};
+ghost use Rattle.cp_logic.specs.Pairs.{pairs_of};
 ghost use Rattle.cp_logic.specs.Views.{entry_of};
 ghost use Rattle.cp_book.specs.Answers.{answer_to, Posted};
-ghost use Rattle.cp_book.specs.Kinds.{removes_implied};
-ghost use Rattle.cp_book.specs.Views.{current, stop_in, with_post};
+ghost use Rattle.cp_book.specs.Views.{current, current_pairs, stop_in, with_post};
 ghost use Rattle.cp_sweep.specs.Cursor.{next_searched, next_turn, left_at, turn_for, variable_at};
 ghost use Rattle.cp_sweep.specs.Swept.{IsSwept};
 ghost use Rattle.cp_occ.specs.Changes.{AreCellsOf};
 ghost use Rattle.cp_sweep.specs.Sweeping.{IsReady, cursor_of};
 
-use crate::search::search;
 use cp_book::Book;
-use cp_logic::{Entry, Formula, Journal, Rules, Stop};
+use cp_eliminate::search;
+use cp_logic::{Entry, Formula, Journal, Rules, Stack, Stop};
 use cp_occ::Cells;
 use std::alloc::{AllocError, Global};
 
-/// What a sweep leaves: the formula, the journal of what was done to it, and why it stopped, if something was left to do.
+/// What a sweep leaves: the formula, the journal of what was done to it, the pairs that complete its models, and why it stopped, if
+/// something was left to do.
 #[derive(Drop)]
 pub struct Swept {
     /// What is left.
     pub formula: Formula,
     /// What was done, in order, all of worker 0 in round 0.
     pub journal: Journal,
+    /// The pairs that complete a model of what is left, the first made first, over the variables of the formula.
+    pub stack: Stack,
     /// None where nothing applies any more.
     pub stopped: Option<Stop>,
 }
@@ -51,9 +55,9 @@ struct Sweeping {
 /// the budget of commits is spent, or clause numbers end. It is refused only for want of memory, and what was made is dropped.
 pub fn simplify(alloc: Global, formula: Formula, rules: &Rules) -> Result<Swept, AllocError>
     requires numbers { formula.formula.next ≤ number_limit }
-    requires no_blocking { IsFalse rules.now.choice.b }
-    requires no_elimination { IsFalse rules.now.choice.e }
-    ensures { IfOk result (λ s. IsSwept formula.formula rules.now s.journal.items s.formula.formula s.stopped) }
+    ensures swept { IfOk result (λ s. IsSwept formula.formula rules.now s.journal.items s.formula.formula s.stopped) }
+    ensures pairs { IfOk result (λ s. pairs_of s.stack.pairs ≡ (folded formula.formula s.journal.items).pairs) }
+    ensures variables { IfOk result (λ s. s.stack.vars ≡ formula.formula.variables) }
 {
     let cells = Cells::of_formula(alloc, &formula)?;
     let vars = formula.vars();
@@ -76,12 +80,15 @@ pub fn simplify(alloc: Global, formula: Formula, rules: &Rules) -> Result<Swept,
 fn closed(book: Book, stopped: Option<Stop>) -> Swept
     ensures formula { result.formula.formula ≡ current book }
     ensures journal { result.journal.items ≡ book.posts }
+    ensures pairs { pairs_of result.stack.pairs ≡ current_pairs book }
+    ensures variables { result.stack.vars ≡ book.first.variables }
     ensures stopped { result.stopped ≡ stopped }
 {
-    let (formula, journal, _stack) = book.close();
+    let (formula, journal, stack) = book.close();
     Swept {
         formula,
         journal,
+        stack,
         stopped,
     }
 }
@@ -90,8 +97,6 @@ fn closed(book: Book, stopped: Option<Stop>) -> Swept
 fn turn(alloc: Global, state: &mut Sweeping, vars: u32) -> Result<Option<Stop>, AllocError>
     requires ready { IsReady state.old }
     requires vars { vars ≡ state.old.book.first.variables }
-    requires no_blocking { IsFalse state.old.book.rules.choice.b }
-    requires no_elimination { IsFalse state.old.book.rules.choice.e }
     ensures turn { IfOk result (λ stop. record { stop = stop; cursor = cursor_of state.new } ≡ next_turn state.old.book.first state.old.book.rules (cursor_of state.old)) }
     ensures first { OnOk result (state.new.book.first ≡ state.old.book.first) }
     ensures rules { OnOk result (state.new.book.rules ≡ state.old.book.rules) }
@@ -133,8 +138,6 @@ fn search_at(alloc: Global, state: &Sweeping, var: u32) -> Result<Option<Entry>,
     requires numbers { (current state.now.book).next ≤ number_limit }
     requires low { 1 ≤ var }
     requires high { var ≤ (current state.now.book).variables }
-    requires no_blocking { IsFalse state.now.book.rules.choice.b }
-    requires no_elimination { IsFalse state.now.book.rules.choice.e }
     ensures { IfOk result (λ found. option_map entry_of found ≡ first (current state.now.book) state.now.book.rules var) }
 {
     let Some(cell) = state.cells.get(var as usize - 1) else {
@@ -155,8 +158,6 @@ fn post(
     requires goes_on { stop_in state.old.book ≡ None }
     requires found { first (current state.old.book) state.old.book.rules var ≡ Some (entry_of entry) }
     requires valid { IsFormula (current state.old.book) }
-    requires no_blocking { IsFalse state.old.book.rules.choice.b }
-    requires no_elimination { IsFalse state.old.book.rules.choice.e }
     ensures turn { IfOk result (λ stop. record { stop = stop; cursor = cursor_of state.new } ≡ turn_for (current state.old.book) (cursor_of state.old) var (Some (entry_of entry))) }
     ensures first { OnOk result (state.new.book.first ≡ state.old.book.first) }
     ensures rules { OnOk result (state.new.book.rules ≡ state.old.book.rules) }
@@ -170,21 +171,22 @@ fn post(
     state.book.prepare(&entry)?;
     let prepared = state.cells.prepare(alloc, &entry)?;
     state.cells.apply(&entry, prepared);
-    post_legal(&mut state.book, entry);
+    append(&mut state.book, entry);
     state.book.is_legal();
     state.mark = var;
     state.quiet = 0;
     Ok(None)
 }
 
-// Posts an entry that the book takes, as worker 0 in round 0.
-fn post_legal(book: &mut Book, entry: Entry)
-    requires kind { IsTrue (removes_implied (entry_of entry)) }
+// Posts an entry that is legal and that the book takes, as worker 0 in round 0.
+fn append(book: &mut Book, entry: Entry)
+    requires commit { IsFalse (is_look (entry_of entry)) }
     requires prepared { book.old.prepared ≡ Some (entry_of entry) }
+    requires legal { IsTrue (is_legal_in (current book.old).clauses book.old.rules (numbered (current book.old).next (entry_of entry))) }
     requires taken { answer_to book.old (entry_of entry) ≡ Posted (length book.old.posts) }
     ensures { book.new ≡ with_post book.old 0 0 (entry_of entry) }
 {
-    if book.post(0, 0, entry).is_err() {
+    if book.post_legal(0, 0, entry).is_err() {
         unreachable!()
     }
 }

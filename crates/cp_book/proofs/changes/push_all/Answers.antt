@@ -1,4 +1,4 @@
-use Rattle.std.proofs.Common.{sym, subst, ap, ◌∙◌, ◌≡◌, ◌∷◌, List, ℕ, length, arith}
+use Rattle.std.proofs.Common.{sym, subst, ap, ◌∙◌, ◌≡◌, ◌∷◌, [], List, ℕ, length, arith}
 use Rattle.std.specs.List.{All}
 use Rattle.std.specs.Vec.Iter.{into_iter_items}
 use Rattle.std.proofs.lemmas.List.Elements.{All-tail}
@@ -22,3 +22,8 @@ loop-clause-preserved c =
           (All-tail (IsWithin c.loop-clause.formula.formula.variables) c.in-Some.clause (into_iter_items c.next.new.self)
           (subst (All (IsWithin c.loop-clause.formula.formula.variables)) items c.loop-clause.invariant.within));
     }
+
+pub push_reserved-requires-clause-within : goal.push_reserved-requires-clause-within
+push_reserved-requires-clause-within c =
+    let items : into_iter_items c.loop-clause.clause-iterator ≡ c.in-Some.clause ∷ into_iter_items c.next.new.self = search c.in-Some.ensures.steps in
+    subst (All (IsWithin c.loop-clause.formula.formula.variables)) items c.loop-clause.invariant.within 0 [] (omega arith)

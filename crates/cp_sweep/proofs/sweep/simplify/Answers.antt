@@ -21,8 +21,8 @@ turns-init c =
           (cells-start f c.in_ok-cells.cells.items (record { variables = c.in_ok-cells.ensures.variables; lists = c.in_ok-cells.ensures.clauses }));
     }
 
-pub returns-in-Some : goal.returns-in-Some
-returns-in-Some c =
+pub returns-in-Some-clause-swept : goal.returns-in-Some-clause-swept
+returns-in-Some-clause-swept c =
     let f = c.args.formula.formula in let rules = c.args.rules.now in let s = c.turns.state in let at = cursor_of s in let d = cursor_of c.turn.new.state in
     let way = c.turns.invariant.under_way in
     let more : at.quiet < f.variables = subst (λ n. at.quiet < n) c.vars-vars.ensures.value c.turns-test.true in
@@ -54,8 +54,8 @@ turns-preserved c =
       cells = subst (λ (g : Formula). AreCellsOf (left_at g d) c.turn.new.state.cells.items) first_is c.in_ok-stop.ensures.cells;
     }
 
-pub returns : goal.returns
-returns c =
+pub returns-clause-swept : goal.returns-clause-swept
+returns-clause-swept c =
     let f = c.args.formula.formula in let rules = c.args.rules.now in let s = c.turns.state in let at = cursor_of s in
     let done : f.variables ≤ at.quiet = subst (λ n. n ≤ at.quiet) c.vars-vars.ensures.value c.turns-test.false in
     let left_is : current s.book ≡ left_at f at = ap (λ (g : Formula). (folded g s.book.posts).formula) c.turns.invariant.first in
