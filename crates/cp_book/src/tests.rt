@@ -1,6 +1,4 @@
 //! A book on small formulas: the answer to each post, and the pairs and clauses that are left, with ample memory.
-ghost use Rattle.std.specs.Prelude.{◌≤◌, ◌^◌};
-
 use crate::{Book, PostAnswer};
 use cp_logic::{Choice, Clause, Entry, Formula, Lit, Named, NamedList, Rules, Stack};
 use std::alloc::{AllocError, Global};
@@ -80,17 +78,18 @@ fn clause(alloc: Global, numbers: &[i8]) -> Result<Clause, AllocError> {
     Clause::from_lits(alloc, &lits)
 }
 
-fn named(alloc: Global, rows: Rows<'_>) -> Result<Named, AllocError> {
+// The first of the clauses, or an empty one under no number.
+fn first_of<'a>(rows: Rows<'a>) -> (u64, &'a [i8]) {
     match rows.first() {
-        Some((number, lits)) => Ok(Named {
-            number: *number,
-            clause: clause(alloc, lits)?,
-        }),
-        None => Ok(Named {
-            number: 0,
-            clause: clause(alloc, NOTHING)?,
-        }),
+        Some(row) => *row,
+        None => (0, NOTHING),
     }
+}
+
+fn named(alloc: Global, rows: Rows<'_>) -> Result<Named, AllocError> {
+    let (number, lits) = first_of(rows);
+    let clause = clause(alloc, lits)?;
+    Ok(Named { number, clause })
 }
 
 fn list(alloc: Global, rows: Rows<'_>) -> Result<NamedList, AllocError> {
@@ -105,24 +104,32 @@ fn list(alloc: Global, rows: Rows<'_>) -> Result<NamedList, AllocError> {
 }
 
 fn entry(alloc: Global, row: &Row<'_>) -> Result<Entry, AllocError> {
-    if let Kind::E = row.kind {
-        return elimination(alloc, row);
+    match row.kind {
+        Kind::E => elimination(alloc, row),
+        Kind::X => strengthening(alloc, row),
+        Kind::S => subsumption(alloc, row),
+        Kind::T => Ok(Entry::Taut {
+            gone: named(alloc, row.neg)?,
+        }),
+        Kind::B => Ok(Entry::Block {
+            gone: named(alloc, row.neg)?,
+            lit: lit(row.lit),
+        }),
     }
+}
+
+fn subsumption(alloc: Global, row: &Row<'_>) -> Result<Entry, AllocError> {
     let by = named(alloc, row.pos)?;
     let gone = named(alloc, row.neg)?;
+    Ok(Entry::Subsume { by, gone })
+}
+
+fn strengthening(alloc: Global, row: &Row<'_>) -> Result<Entry, AllocError> {
+    let by = named(alloc, row.pos)?;
+    let on = named(alloc, row.neg)?;
     let new = named(alloc, row.new)?;
     let lit = lit(row.lit);
-    Ok(match row.kind {
-        Kind::T => Entry::Taut { gone },
-        Kind::S => Entry::Subsume { by, gone },
-        Kind::X => Entry::Strengthen {
-            by,
-            on: gone,
-            lit,
-            new,
-        },
-        _ => Entry::Block { gone, lit },
-    })
+    Ok(Entry::Strengthen { by, on, lit, new })
 }
 
 fn elimination(alloc: Global, row: &Row<'_>) -> Result<Entry, AllocError> {
@@ -154,11 +161,8 @@ fn add(formula: &mut Formula, clause: Clause) -> Result<(), AllocError> {
 }
 
 // A book over three variables and these clauses, the first of which has the number, with all techniques.
-fn book_of(alloc: Global, first: u64, clauses: &[&[i8]], budget: u64) -> Result<Book, AllocError>
-    requires low { 1 ≤ first }
-    requires high { first ≤ 2 ^ 40 }
-{
-    let mut formula = Formula::new(alloc, 3, first);
+fn book_of(alloc: Global, first: u64, clauses: &[&[i8]], budget: u64) -> Result<Book, AllocError> {
+    let mut formula = Formula::new(alloc, 3, first.clamp(1, 1_099_511_627_776));
     for lits in clauses {
         add(&mut formula, clause(alloc, lits)?)?;
     }
@@ -243,34 +247,30 @@ fn clauses(alloc: Global, formula: &Formula) -> Result<Vec<i64>, AllocError> {
     Ok(line)
 }
 
-// What a book came to.
-#[derive(Drop)]
-struct End {
-    answers: Vec<Answer>,
-    pairs: Vec<i64>,
-    clauses: Vec<i64>,
+// The entries that are posted into a book over these clauses, of which the first has the number, and what it comes to.
+struct Case<'a> {
+    first: u64,
+    lits: &'a [&'a [i8]],
+    budget: u64,
+    rows: &'a [Row<'a>],
+    answers: &'a [Answer],
+    pairs: &'a [i64],
+    clauses: &'a [i64],
 }
 
-// Posts these entries into a book over these clauses, of which the first has the number.
-fn end_of(
-    alloc: Global,
-    first: u64,
-    lits: &[&[i8]],
-    budget: u64,
-    rows: &[Row<'_>],
-) -> Result<End, AllocError>
-    requires low { 1 ≤ first }
-    requires high { first ≤ 2 ^ 40 }
-{
-    let mut book = book_of(alloc, first, lits, budget)?;
-    let answers = posts(alloc, &mut book, rows)?;
+// Whether the book comes to that.
+fn passes(alloc: Global, case: &Case<'_>) -> Result<bool, AllocError> {
+    let mut book = book_of(alloc, case.first, case.lits, case.budget)?;
+    let answers = posts(alloc, &mut book, case.rows)?;
+    let same = answers.as_slice() == case.answers;
+    Ok(same && is_left(alloc, &book, case)?)
+}
+
+// Whether the pairs and the clauses are those.
+fn is_left(alloc: Global, book: &Book, case: &Case<'_>) -> Result<bool, AllocError> {
     let pairs = pairs(alloc, book.stack())?;
     let clauses = clauses(alloc, book.clauses())?;
-    Ok(End {
-        answers,
-        pairs,
-        clauses,
-    })
+    Ok(pairs.as_slice() == case.pairs && clauses.as_slice() == case.clauses)
 }
 
 const CHAIN: &[&[i8]] = &[&[1], &[-1, 2], &[-2, 3]];
@@ -291,104 +291,186 @@ const SECOND: Row<'static> = Row {
     new: &[(7, &[3])],
 };
 
-// The second clause is subsumed by the first, or of equal ones the other way round.
-fn subsumption<'a>(pos: Rows<'a>, neg: Rows<'a>) -> Row<'a> {
-    Row {
-        kind: Kind::S,
-        lit: 1,
-        pos,
-        neg,
-        new: NONE,
+const BLOCKED: Row<'static> = Row {
+    kind: Kind::B,
+    lit: 1,
+    pos: NONE,
+    neg: &[(1, &[1, 2])],
+    new: NONE,
+};
+
+const FIRST_POST: Answer = Answer {
+    how: How::Posted,
+    number: 0,
+    gone: 0,
+};
+
+const CASES: &[Case<'static>] = &[
+    // An entry that isn't legal.
+    Case {
+        first: 1,
+        lits: CHAIN,
+        budget: 0,
+        rows: &[Row {
+            kind: Kind::S,
+            lit: 1,
+            pos: &[(1, &[1])],
+            neg: &[(2, &[-1, 2])],
+            new: NONE,
+        }],
+        answers: &[Answer {
+            how: How::Stale,
+            number: 0,
+            gone: 2,
+        }],
+        pairs: &[],
+        clauses: &[1, 1, 0, 2, -1, 2, 0, 3, -2, 3, 0],
+    },
+    // Two strengthenings, one after the other.
+    Case {
+        first: 1,
+        lits: CHAIN,
+        budget: 0,
+        rows: &[FIRST, SECOND],
+        answers: &[
+            FIRST_POST,
+            Answer {
+                how: How::Posted,
+                number: 1,
+                gone: 0,
+            },
+        ],
+        pairs: &[],
+        clauses: &[1, 1, 0, 4, 2, 0, 5, 3, 0],
+    },
+    // A budget that is spent.
+    Case {
+        first: 1,
+        lits: CHAIN,
+        budget: 1,
+        rows: &[FIRST, SECOND],
+        answers: &[
+            FIRST_POST,
+            Answer {
+                how: How::Spent,
+                number: 1,
+                gone: 3,
+            },
+        ],
+        pairs: &[],
+        clauses: &[1, 1, 0, 3, -2, 3, 0, 4, 2, 0],
+    },
+    // A new clause past the last number.
+    Case {
+        first: 1_099_511_627_774,
+        lits: &[&[-1], &[1]],
+        budget: 0,
+        rows: &[Row {
+            kind: Kind::X,
+            lit: -1,
+            pos: &[(1_099_511_627_775, &[1])],
+            neg: &[(1_099_511_627_774, &[-1])],
+            new: &[(1_099_511_627_776, NOTHING)],
+        }],
+        answers: &[Answer {
+            how: How::Numbers,
+            number: 1_099_511_627_776,
+            gone: 1_099_511_627_774,
+        }],
+        pairs: &[],
+        clauses: &[1_099_511_627_774, -1, 0, 1_099_511_627_775, 1, 0],
+    },
+    // An elimination, of whose resolvents one is a tautology.
+    Case {
+        first: 1,
+        lits: &[&[1, 2], &[1, 3], &[-1, -2], &[-1, 3]],
+        budget: 0,
+        rows: &[Row {
+            kind: Kind::E,
+            lit: 1,
+            pos: &[(1, &[1, 2]), (2, &[1, 3])],
+            neg: &[(3, &[-1, -2]), (4, &[-1, 3])],
+            new: &[(7, &[2, 3]), (7, &[-2, 3]), (7, &[3])],
+        }],
+        answers: &[FIRST_POST],
+        pairs: &[1, 1, 2, 0, 1, 1, 3, 0, -1, -1, -2, 0, -1, -1, 3, 0],
+        clauses: &[5, 2, 3, 0, 6, -2, 3, 0, 7, 3, 0],
+    },
+    // A blocked clause, which is gone when it is posted again.
+    Case {
+        first: 1,
+        lits: &[&[1, 2], &[-1, -2]],
+        budget: 0,
+        rows: &[BLOCKED, BLOCKED],
+        answers: &[
+            FIRST_POST,
+            Answer {
+                how: How::Stale,
+                number: 0,
+                gone: 1,
+            },
+        ],
+        pairs: &[1, 1, 2, 0],
+        clauses: &[2, -1, -2, 0],
+    },
+    // An empty clause, of two the first.
+    Case {
+        first: 1,
+        lits: &[&[1], NOTHING, NOTHING],
+        budget: 0,
+        rows: &[Row {
+            kind: Kind::S,
+            lit: 1,
+            pos: &[(2, NOTHING)],
+            neg: &[(1, &[1])],
+            new: NONE,
+        }],
+        answers: &[Answer {
+            how: How::Refuted,
+            number: 2,
+            gone: 1,
+        }],
+        pairs: &[],
+        clauses: &[1, 1, 0, 2, 0, 3, 0],
+    },
+    // Equal clauses, of which one stays.
+    Case {
+        first: 1,
+        lits: &[&[1, 2], &[2, 1]],
+        budget: 0,
+        rows: &[
+            Row {
+                kind: Kind::S,
+                lit: 1,
+                pos: &[(1, &[1, 2])],
+                neg: &[(2, &[1, 2])],
+                new: NONE,
+            },
+            Row {
+                kind: Kind::S,
+                lit: 1,
+                pos: &[(2, &[1, 2])],
+                neg: &[(1, &[1, 2])],
+                new: NONE,
+            },
+        ],
+        answers: &[
+            FIRST_POST,
+            Answer {
+                how: How::Stale,
+                number: 0,
+                gone: 1,
+            },
+        ],
+        pairs: &[],
+        clauses: &[1, 1, 2, 0],
+    },
+];
+
+#[test]
+fn books_come_to_these_ends(rt: HostRuntime) -> Result<(), Fail> {
+    for case in CASES {
+        assert!(rt; passes(rt.alloc(), case)?);
     }
-}
-
-#[test]
-fn a_refusal_hands_the_entry_back(rt: HostRuntime) -> Result<(), Fail> {
-    let row = subsumption(&[(1, &[1])], &[(2, &[-1, 2])]);
-    let end = end_of(rt.alloc(), 1, CHAIN, 0, &[row])?;
-    assert!(rt; end.answers.as_slice() == [refused(How::Stale, 0, 2)].as_slice());
-    Ok(())
-}
-
-#[test]
-fn a_budget_is_spent(rt: HostRuntime) -> Result<(), Fail> {
-    let end = end_of(rt.alloc(), 1, CHAIN, 1, &[FIRST, SECOND])?;
-    assert!(rt; end.answers.as_slice() == [posted(0), refused(How::Spent, 1, 3)].as_slice());
-    Ok(())
-}
-
-#[test]
-fn a_second_strengthening_follows(rt: HostRuntime) -> Result<(), Fail> {
-    let end = end_of(rt.alloc(), 1, CHAIN, 0, &[FIRST, SECOND])?;
-    assert!(rt; end.answers.as_slice() == [posted(0), posted(1)].as_slice());
-    assert!(rt; end.clauses.as_slice() == [1, 1, 0, 4, 2, 0, 5, 3, 0].as_slice());
-    Ok(())
-}
-
-#[test]
-fn numbers_end(rt: HostRuntime) -> Result<(), Fail> {
-    let row = Row {
-        kind: Kind::X,
-        lit: -1,
-        pos: &[(1_099_511_627_775, &[1])],
-        neg: &[(1_099_511_627_774, &[-1])],
-        new: &[(1_099_511_627_776, NOTHING)],
-    };
-    let end = end_of(rt.alloc(), 1_099_511_627_774, &[&[-1], &[1]], 0, &[row])?;
-    let refusal = refused(How::Numbers, 1_099_511_627_776, 1_099_511_627_774);
-    assert!(rt; end.answers.as_slice() == [refusal].as_slice());
-    Ok(())
-}
-
-#[test]
-fn an_elimination_keeps_its_clauses(rt: HostRuntime) -> Result<(), Fail> {
-    let row = Row {
-        kind: Kind::E,
-        lit: 1,
-        pos: &[(1, &[1, 2]), (2, &[1, 3])],
-        neg: &[(3, &[-1, -2]), (4, &[-1, 3])],
-        new: &[(7, &[2, 3]), (7, &[-2, 3]), (7, &[3])],
-    };
-    let lits: &[&[i8]] = &[&[1, 2], &[1, 3], &[-1, -2], &[-1, 3]];
-    let end = end_of(rt.alloc(), 1, lits, 0, &[row])?;
-    assert!(rt; end.answers.as_slice() == [posted(0)].as_slice());
-    let pairs = [1, 1, 2, 0, 1, 1, 3, 0, -1, -1, -2, 0, -1, -1, 3, 0];
-    assert!(rt; end.pairs.as_slice() == pairs.as_slice());
-    let clauses = [5, 2, 3, 0, 6, -2, 3, 0, 7, 3, 0];
-    assert!(rt; end.clauses.as_slice() == clauses.as_slice());
-    Ok(())
-}
-
-#[test]
-fn a_blocked_clause_is_kept(rt: HostRuntime) -> Result<(), Fail> {
-    let row = Row {
-        kind: Kind::B,
-        lit: 1,
-        pos: NONE,
-        neg: &[(1, &[1, 2])],
-        new: NONE,
-    };
-    let end = end_of(rt.alloc(), 1, &[&[1, 2], &[-1, -2]], 0, &[row, row])?;
-    assert!(rt; end.answers.as_slice() == [posted(0), refused(How::Stale, 0, 1)].as_slice());
-    assert!(rt; end.pairs.as_slice() == [1, 1, 2, 0].as_slice());
-    assert!(rt; end.clauses.as_slice() == [2, -1, -2, 0].as_slice());
-    Ok(())
-}
-
-#[test]
-fn an_empty_clause_refutes(rt: HostRuntime) -> Result<(), Fail> {
-    let row = subsumption(&[(2, NOTHING)], &[(1, &[1])]);
-    let end = end_of(rt.alloc(), 1, &[&[1], NOTHING, NOTHING], 0, &[row])?;
-    assert!(rt; end.answers.as_slice() == [refused(How::Refuted, 2, 1)].as_slice());
-    Ok(())
-}
-
-#[test]
-fn of_equal_clauses_one_stays(rt: HostRuntime) -> Result<(), Fail> {
-    let one: Rows<'_> = &[(1, &[1, 2])];
-    let two: Rows<'_> = &[(2, &[1, 2])];
-    let rows = [subsumption(one, two), subsumption(two, one)];
-    let end = end_of(rt.alloc(), 1, &[&[1, 2], &[2, 1]], 0, &rows)?;
-    assert!(rt; end.answers.as_slice() == [posted(0), refused(How::Stale, 0, 1)].as_slice());
     Ok(())
 }
