@@ -1,5 +1,5 @@
 -- What the first entry at a variable is: it is legal, no Look, and its new clauses have the next numbers.
-use Rattle.std.proofs.Common.{◌≡◌, ℕ, ◌&&◌, Bool, true, false, cond, List, Option, Some, None, refl, sym, ◌∙◌, ap}
+use Rattle.std.proofs.Common.{◌≡◌, ℕ, Bool, true, false, cond, Some, None, refl, sym, ◌∙◌, ap}
 use Rattle.std.specs.Option.{option_map}
 use Rattle.std.proofs.lemmas.Bool.{and_parts, and_from, not_from_false, false≢true}
 use Rattle.cp_logic.specs.declared.settings.Rules.{Rules}
@@ -55,9 +55,9 @@ first-legal f rules x e s = and_from _ _ (not_from_false (has_empty f.clauses) (
 -- its new clauses have the next numbers
 pub first-numbered : (f : Formula) (rules : Rules) (x : ℕ) (e : Entry) → first f rules x ≡ Some e → e ≡ numbered f.next e
 first-numbered f rules x e s = inside (
-  sym s ∙ sym (first-from_cell f rules x (occurrences f.clauses x) (first-filled f rules x e s) refl)
-  ∙ search-first f rules f.next x (first-filled f rules x e s) ∙ ap (option_map (numbered f.next)) s
-)
+    sym s ∙ sym (first-from_cell f rules x (occurrences f.clauses x) (first-filled f rules x e s) refl)
+    ∙ search-first f rules f.next x (first-filled f rules x e s) ∙ ap (option_map (numbered f.next)) s
+    )
   where
     inside : Some e ≡ Some (numbered f.next e) → e ≡ numbered f.next e
     inside h = cc

@@ -7,7 +7,7 @@ use Rattle.cp_logic.specs.declared.settings.Stop.{Stop}
 use Rattle.cp_logic.specs.declared.settings.Stop.TheVariants.{Refuted as StopRefuted, Spent as StopSpent, Numbers as StopNumbers}
 use Rattle.cp_logic.specs.Formulas.{Formula, IsFormula, has_empty}
 use Rattle.cp_logic.specs.Rules.{Rule, Add, Drop, Weaken, State, state_after, applied, added, removed}
-use Rattle.cp_logic.specs.Entries.{Entry, Taut, Subsume, Strengthen, Block, Eliminate, Look, expand, new_clauses, numbered}
+use Rattle.cp_logic.specs.Entries.{Entry, expand, new_clauses, numbered}
 use Rattle.cp_logic.specs.Legality.{is_legal}
 use Rattle.cp_logic.specs.Journals.{Post, folded, start_of, commits, number_limit}
 use Rattle.cp_logic.proofs.JournalRuns.{folded-push}

@@ -1,5 +1,5 @@
 -- Which roles are bound after each step of a run.
-use Rattle.std.proofs.Common.{◌≡◌, ◌≢◌, ℕ, List, Option, Some, None, Ok, Err, sym, ◌∙◌, ap, subst}
+use Rattle.std.proofs.Common.{◌≡◌, ◌≢◌, ℕ, List, Option, Ok, sym, ◌∙◌, ap, subst}
 use Rattle.std.specs.Prelude.{IfSome}
 use Rattle.cp_io.specs.declared.desk.Failed.{Failed}
 use Rattle.cp_io.specs.declared.role.Role.{Role}
