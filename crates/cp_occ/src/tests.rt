@@ -1,12 +1,6 @@
-//! Each call once with ample memory.
-ghost use Rattle.std.specs.Prelude.{◌≡◌, [], ◌∷◌, IfOk};
-ghost use Rattle.cp_logic.specs.Clauses.{IsAscending};
-ghost use Rattle.cp_logic.specs.Entries.{Strengthen, Block};
-ghost use Rattle.cp_logic.specs.Views.{entry_of};
-
+//! Calls with ample memory. What an entry does to the cells is seen in the runs above this crate.
 use crate::{Cell, Cells, Place};
-use cp_logic::{Clause, Entry, Formula, Lit, Named};
-use std::alloc::{AllocError, Global};
+use cp_logic::{Clause, Formula, Lit};
 use std::test::Fail;
 
 #[test]
@@ -64,83 +58,5 @@ fn cells_list_the_clauses_of_their_variables(rt: HostRuntime) -> Result<(), Fail
         seen.push(cell.len())?;
     }
     assert_eq!(rt; seen.as_slice(), lengths.as_slice());
-    Ok(())
-}
-
-fn named(alloc: Global, number: u64, lits: &[Lit]) -> Result<Named, AllocError>
-    requires { IsAscending lits.now }
-    ensures { IfOk result (λ n. n ≡ record { number = number; clause = lits.now }) }
-{
-    Ok(Named {
-        number,
-        clause: Clause::from_lits(alloc, lits)?,
-    })
-}
-
-// The formula of the clauses {1}, {-1, 2} and {-2, 3}.
-fn chain(alloc: Global) -> Result<Formula, AllocError>
-    ensures { IfOk result (λ f. f.formula ≡ record { variables = 3; next = 4; clauses = record { number = 1; clause = 2 ∷ [] } ∷ record { number = 2; clause = 3 ∷ 4 ∷ [] } ∷ record { number = 3; clause = 5 ∷ 6 ∷ [] } ∷ [] }) }
-{
-    let mut formula = Formula::new(alloc, 3, 1);
-    formula.push(named(alloc, 1, &[Lit::new(1, true)])?.clause)?;
-    formula.push(named(alloc, 2, &[Lit::new(1, false), Lit::new(2, true)])?.clause)?;
-    formula.push(named(alloc, 3, &[Lit::new(2, false), Lit::new(3, true)])?.clause)?;
-    Ok(formula)
-}
-
-// Its second clause made shorter by the first, under the number 4.
-fn strengthening(alloc: Global) -> Result<Entry, AllocError>
-    ensures { IfOk result (λ e. entry_of e ≡ Strengthen (record { number = 1; clause = 2 ∷ [] }) (record { number = 2; clause = 3 ∷ 4 ∷ [] }) 3 (record { number = 4; clause = 4 ∷ [] })) }
-{
-    Ok(Entry::Strengthen {
-        by: named(alloc, 1, &[Lit::new(1, true)])?,
-        on: named(alloc, 2, &[Lit::new(1, false), Lit::new(2, true)])?,
-        lit: Lit::new(1, false),
-        new: named(alloc, 4, &[Lit::new(2, true)])?,
-    })
-}
-
-// Its last clause blocked on its last literal.
-fn blocking(alloc: Global) -> Result<Entry, AllocError>
-    ensures { IfOk result (λ e. entry_of e ≡ Block (record { number = 3; clause = 5 ∷ 6 ∷ [] }) 6) }
-{
-    Ok(Entry::Block {
-        gone: named(alloc, 3, &[Lit::new(2, false), Lit::new(3, true)])?,
-        lit: Lit::new(3, true),
-    })
-}
-
-// Each variable with each number of a clause in its cell.
-fn listed(alloc: Global, cells: &Cells) -> Result<Vec<(u32, u64)>, AllocError> {
-    let mut seen = Vec::new(alloc);
-    for cell in cells.iter() {
-        for (number, _clause) in cell.iter() {
-            seen.push((cell.var(), number))?;
-        }
-    }
-    Ok(seen)
-}
-
-#[test]
-fn an_entry_changes_the_cells_of_its_variables(rt: HostRuntime) -> Result<(), Fail> {
-    let formula = chain(rt.alloc())?;
-    let entry = strengthening(rt.alloc())?;
-    let mut cells = Cells::of_formula(rt.alloc(), &formula)?;
-    let prepared = cells.prepare(rt.alloc(), &entry)?;
-    cells.apply(&entry, prepared);
-    let expected = [(1, 1), (2, 3), (2, 4), (3, 3)];
-    assert_eq!(rt; listed(rt.alloc(), &cells)?.as_slice(), expected.as_slice());
-    Ok(())
-}
-
-#[test]
-fn a_blocked_clause_leaves_its_cells(rt: HostRuntime) -> Result<(), Fail> {
-    let formula = chain(rt.alloc())?;
-    let entry = blocking(rt.alloc())?;
-    let mut cells = Cells::of_formula(rt.alloc(), &formula)?;
-    let prepared = cells.prepare(rt.alloc(), &entry)?;
-    cells.apply(&entry, prepared);
-    let expected = [(1, 1), (1, 2), (2, 2)];
-    assert_eq!(rt; listed(rt.alloc(), &cells)?.as_slice(), expected.as_slice());
     Ok(())
 }
