@@ -241,18 +241,28 @@ def plain_answer(words, text):
     return (0 if left else 10), text_of(variables, left), b""
 
 
-def random_formula(rng, variables):
-    """Few or short clauses are nearly all taken away; of many long ones most techniques leave some."""
-    width = rng.choice(((1, 2, 2, 3), (2, 2, 3, 3), (3,), (3, 3, 4), (1, 2, 2, 3, 3, 4, 6)))
+def random_formula(rng, variables, widths, fewest, most):
+    """So many clauses for each variable, each with one of these numbers of literals."""
     clauses = [
-        [rng.choice((1, -1)) * rng.randint(1, variables) for _ in range(rng.choice(width))]
-        for _ in range(rng.randint(0, rng.choice((2, 4, 6)) * variables))
+        [rng.choice((1, -1)) * rng.randint(1, variables) for _ in range(rng.choice(widths))]
+        for _ in range(rng.randint(fewest * variables, most * variables))
     ]
     if rng.random() < 0.03:
         clauses.append([])
     lines = ["p cnf %d %d" % (rng.randint(0, variables), len(clauses))]
     lines += [" ".join(map(str, clause + [0])) for clause in clauses]
     return ("\n".join(lines) + "\n").encode()
+
+
+def random_formulas(rng):
+    """Small ones of all kinds, some wider ones, and dense ones of long clauses, of which all techniques together leave some."""
+    kinds = ((1, 2, 2, 3), (2, 2, 3, 3), (3,), (3, 3, 4), (1, 2, 2, 3, 3, 4, 6))
+    for _ in range(300):
+        yield random_formula(rng, rng.randint(1, 8), rng.choice(kinds), 0, rng.choice((2, 4, 6)))
+    for _ in range(40):
+        yield random_formula(rng, rng.randint(9, 40), rng.choice(kinds), 0, rng.choice((2, 4)))
+    for _ in range(150):
+        yield random_formula(rng, rng.randint(8, 16), (3, 3, 3, 4), 3, 6)
 
 
 def complaint(text, wanted, got):
@@ -266,9 +276,7 @@ def complaint(text, wanted, got):
 
 def main():
     program = sys.argv[1]
-    rng = random.Random(5)
-    texts = [random_formula(rng, rng.randint(1, 8)) for _ in range(300)]
-    texts += [random_formula(rng, rng.randint(9, 40)) for _ in range(60)]
+    texts = list(random_formulas(random.Random(5)))
     texts += [open(path, "rb").read() for path in sorted(glob.glob(os.path.join(TOP, "examples", "*.cnf")))]
     cases = [(words, text, (status, out, b"")) for words, text, status, out in ANSWERS]
     cases += [(words, text, (status, b"", err)) for words, text, status, err in REFUSALS]
