@@ -1,0 +1,4 @@
+pub mod Completions
+pub mod Lines
+pub mod Pieces
+pub mod Rows
