@@ -1,8 +1,7 @@
 -- Worked examples of texts of models, and of completions.
-use Rattle.std.proofs.Common.{◌≡◌, ℕ, Bool, true, false, List, [], ◌∷◌, refl}
+use Rattle.std.proofs.Common.{◌≡◌, ℕ, true, false, List, [], ◌∷◌, refl}
 use Rattle.std.specs.Prelude.{codes}
 use Rattle.std.specs.Fmt.{digits}
-use Rattle.cp_logic.specs.Literals.{negated}
 use Rattle.cp_logic.specs.Assignments.{Pair, completed, makes_true, value_of, with_value}
 use Rattle.cp_extend.specs.ModelText.{model_text}
 

@@ -1,10 +1,11 @@
 -- The text of a model. A model is the list of the truth values of the variables 1, 2, ..
 use Rattle.std.specs.Prelude.{ℕ, zero, suc, ◌+◌, ◌/◌, List, [], ◌∷◌, ◌++◌, length, take, drop, codes, decimal, Bool, if◌then◌else◌}
 
+-- a space, and a `-` where the variable is false
 abbrev pub sign_text : Bool → List ℕ
 sign_text value = if value then codes " " else codes " -"
 
--- a space and the literal of the variable that is true: behind a `-` where the variable is false
+-- behind a space, the literal of the variable that is true
 abbrev pub value_text : ℕ → Bool → List ℕ
 value_text x value = sign_text value ++ decimal x
 

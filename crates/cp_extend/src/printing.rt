@@ -4,7 +4,7 @@
 //! that are true, of which the last is followed by a 0. Ten literals stand on a line, so that no line grows long, and the 0 has a
 //! line of its own.
 
-ghost use Rattle.std.specs.Prelude.{◌≡◌, ◌+◌, ◌<◌, ◌≤◌, Bool, length, take, drop, Some};
+ghost use Rattle.std.specs.Prelude.{◌≡◌, ◌+◌, ◌≤◌, length, take, drop, Some};
 ghost use Rattle.cp_io.specs.declared.role.Way.TheVariants.{Out};
 ghost use Rattle.cp_io.specs.declared.role.Role.TheVariants.{Full};
 ghost use Rattle.cp_io.specs.Port.{AtRole, Writes};

@@ -12,41 +12,39 @@ use std::test::Fail;
 
 #[test]
 fn models_are_completed_and_printed(rt: HostRuntime) -> Result<(), Fail> {
-    let rows: [(u32, &[i32], &[&[i32]], &str); 5] = [
-        (0, &[], &[], "s SATISFIABLE\nv 0\n"),
+    let rows: [(u32, u32, &[&[i32]], &str); 5] = [
+        (0, 0, &[], "s SATISFIABLE\nv 0\n"),
         (
             3,
-            &[3],
+            3,
             &[&[1, 2], &[-1, 3], &[2, 3]],
             "s SATISFIABLE\nv 1 -2 3\nv 0\n",
         ),
         // The last pair makes the first clause false.
         (
             3,
-            &[2],
+            2,
             &[&[1, 2], &[-2, 3]],
             "s SATISFIABLE\nv 1 -2 -3\nv 0\n",
         ),
         (
             10,
-            &[2, 10],
-            &[],
-            "s SATISFIABLE\nv -1 2 -3 -4 -5 -6 -7 -8 -9 10\nv 0\n",
+            10,
+            &[&[1, 10]],
+            "s SATISFIABLE\nv -1 -2 -3 -4 -5 -6 -7 -8 -9 10\nv 0\n",
         ),
         (
             12,
-            &[1, 11],
-            &[&[12, 2], &[-1, -11]],
-            "s SATISFIABLE\nv -1 -2 -3 -4 -5 -6 -7 -8 -9 -10\nv 11 12\nv 0\n",
+            11,
+            &[&[12, 2], &[1, -11]],
+            "s SATISFIABLE\nv 1 -2 -3 -4 -5 -6 -7 -8 -9 -10\nv 11 12\nv 0\n",
         ),
     ];
-    for (vars, true_vars, pairs, wanted) in rows {
+    for (vars, true_var, pairs, wanted) in rows {
         let stack = stack_of(rt.alloc(), vars, pairs)?;
-        let mut model = model_of(rt.alloc(), vars, true_vars)?;
+        let mut model = model_of(rt.alloc(), vars, true_var)?;
+        extend_fitting(&mut model, &stack);
         let mut desk = desk_of(rt.alloc())?;
-        if stack.vars <= model.len() {
-            extend(&mut model, &stack);
-        }
         print_of(&mut desk, &model).ok().ok_or("not printed")?;
         assert_eq!(rt; desk.written(Role::Full), wanted.as_bytes());
     }
@@ -67,14 +65,18 @@ fn print_of<D: Desk>(desk: &mut D, model: &Assignment) -> Result<(), Failed>
     print_model(desk, model)
 }
 
-// The variables that are true; the others are false.
-fn model_of(alloc: Global, vars: u32, true_vars: &[i32]) -> Result<Assignment, AllocError> {
+fn extend_fitting(model: &mut Assignment, stack: &Stack) {
+    if stack.vars <= model.len() {
+        extend(model, stack);
+    }
+}
+
+// The variables are false but for one, which is true.
+fn model_of(alloc: Global, vars: u32, true_var: u32) -> Result<Assignment, AllocError> {
     let mut model = Assignment::new(alloc, vars.min(2_000_000))?;
-    for var in true_vars {
-        let lit = lit_of(*var);
-        if lit.var() <= model.len() {
-            model.set(lit);
-        }
+    let lit = Lit::new(true_var.max(1).min(2_000_000), true_var > 0);
+    if lit.var() <= model.len() {
+        model.set(lit);
     }
     Ok(model)
 }

@@ -1,7 +1,5 @@
-use Rattle.std.proofs.Common.{◌≡◌, ◌≤◌, ◌+◌, ◌*◌, ◌/◌, ◌++◌, List, length, take, drop, sym, ◌∙◌, ap, subst, append_assoc}
+use Rattle.std.proofs.Common.{◌+◌, ◌*◌, ◌/◌, ◌++◌, length, take, drop}
 use Rattle.std.specs.Prelude.{codes}
-use Rattle.cp_io.specs.declared.role.Role.TheVariants.{Full}
-use Rattle.cp_io.specs.Prints.{Prints, nothing_pending}
 use Rattle.cp_io.proofs.Printing.{Prints-then, Prints-finish}
 use Rattle.cp_extend.specs.ModelText.{line_text, lines_text}
 use Rattle.cp_extend.proofs.Lines.{lines_left, lines_left-next, lines_left-none}

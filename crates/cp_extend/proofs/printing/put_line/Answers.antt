@@ -1,10 +1,8 @@
-use Rattle.std.proofs.Common.{◌≡◌, ◌≤◌, ◌+◌, ◌++◌, List, length, take, drop, min, ◌-◌, refl, sym, ◌∙◌, ap, subst, append_assoc, arith}
+use Rattle.std.proofs.Common.{◌≤◌, ◌+◌, ◌++◌, length, take, drop, sym, ◌∙◌, ap, arith}
 use Rattle.std.specs.Prelude.{codes}
-use Rattle.cp_io.specs.declared.role.Role.TheVariants.{Full}
-use Rattle.cp_io.specs.Prints.{Prints}
 use Rattle.cp_io.proofs.Printing.{Prints-then}
 use Rattle.cp_extend.specs.ModelText.{value_text, values_text}
-use Rattle.cp_extend.proofs.Lines.{line_left, line_left-first, line_left-next, line_left-none}
+use Rattle.cp_extend.proofs.Lines.{line_left, line_left-next, line_left-none}
 use Rattle.cp_extend.proofs.Pieces.{Prints-next, Prints-whole}
 use Rattle.cp_extend.proofs.printing.put_line.Goals as goal
 
