@@ -1,2 +1,5 @@
+pub mod Accepted
+pub mod Counts
 pub mod Cuts
 pub mod Lines
+pub mod RupAdditions
