@@ -1,11 +1,10 @@
 -- The log of a legal journal is accepted.
-use Rattle.std.proofs.Common.{◌≡◌, ◌≤◌, ℕ, Bool, true, false, cond, List, [], ◌∷◌, ◌++◌, map, refl, sym, subst, inl, inr, arith}
-use Rattle.std.specs.List.{Contains}
+use Rattle.std.proofs.Common.{ℕ, Bool, true, false, cond, List, [], ◌∷◌, ◌++◌, map, sym, subst, inl, inr, arith}
 use Rattle.std.proofs.lemmas.List.{map-append}
 use Rattle.std.proofs.lemmas.List.Elements.{Contains-append_cases}
 use Rattle.cp_logic.specs.declared.named.Named.{Named}
 use Rattle.cp_logic.specs.Clauses.{IsAscending}
-use Rattle.cp_logic.specs.Formulas.{IsFormula, clauses_of, without_number}
+use Rattle.cp_logic.specs.Formulas.{IsFormula, clauses_of}
 use Rattle.cp_logic.specs.Rules.{Rule, Add, Drop, Weaken, State, applied, IsRun}
 use Rattle.cp_logic.specs.Journals.{expansion, start_of}
 use Rattle.cp_logic.proofs.Members.{none_in, of_map, in_cases}

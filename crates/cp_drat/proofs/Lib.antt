@@ -2,4 +2,5 @@ pub mod Accepted
 pub mod Counts
 pub mod Cuts
 pub mod Lines
+pub mod Rows
 pub mod RupAdditions

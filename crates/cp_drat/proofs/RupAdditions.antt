@@ -1,5 +1,5 @@
 -- What a legal entry, and so a legal journal, adds is RUP where it is added.
-use Rattle.std.proofs.Common.{◌≡◌, ℕ, zero, suc, ◌≤◌, true, false, List, [], ◌∷◌, ◌++◌, map, length, take, refl, sym, ◌∙◌, ap, subst, inl, inr, arith}
+use Rattle.std.proofs.Common.{◌≡◌, ℕ, zero, suc, ◌≤◌, true, List, [], ◌∷◌, ◌++◌, map, length, take, refl, sym, ◌∙◌, ap, subst, inl, inr, arith}
 use Rattle.std.specs.List.{Contains}
 use Rattle.std.proofs.lemmas.List.{map-append}
 use Rattle.std.proofs.lemmas.Bool.{cases_Bool, false≢true, cases_eq}
@@ -46,10 +46,10 @@ resolved-rup clauses a d l r i j ascending has left right = elim (cases_Bool (co
     | inr n ↦ left x k n
   ])))
   | inr f ↦ inr (unit {clause = a} {l = l} i (difference_one a r l ascending has (λ k. false≢true (sym f ∙ in_contains r l k)) left)
-    (falsified {clause = d} j (difference_none d (negated l ∷ r) (λ x k. elim (cases_eq x (negated l)) [
-      | inl e ↦ in_here x (negated l) r (sym e)
-      | inr n ↦ in_later x (negated l) r (right x k n)
-    ]))))
+      (falsified {clause = d} j (difference_none d (negated l ∷ r) (λ x k. elim (cases_eq x (negated l)) [
+        | inl e ↦ in_here x (negated l) r (sym e)
+        | inr n ↦ in_later x (negated l) r (right x k n)
+      ]))))
 ]
 
 strengthen-rup : (f : Formula) (by on : Named) (l : ℕ) (new : Named) → IsFormula f → IsStrengthen f.clauses by on l new → IsRup (clauses_of f.clauses) new.clause

@@ -10,10 +10,14 @@
 //! shorter clause comes before the one that it replaces, and resolvents before the clauses of their variable. And nothing follows
 //! the empty clause, with which a checker is done.
 //!
-//! A deletion names a clause by its literals, as the format has no numbers. The clause that a deletion takes out may thus be another
+//! A deletion names a clause by its literals, as the format has no numbers. The clause that a checker takes out may thus be another
 //! one than the journal's where two have the same literals, and what is left is the same. A clause by which another was made
 //! shorter, and the literal on which one was blocked, aren't told: a checker finds the first by propagation, and needs the second only
 //! to complete a model.
+//!
+//! Each lemma of a legal journal is RUP where it stands, and needs no RAT: the law is in `laws`. What is RUP stays so among more
+//! clauses, so a checker that passes over deletions, as some do with those of unit clauses, takes the log too. A formula that has the
+//! empty clause from the start has no legal step, and its log is empty.
 
 ghost use Rattle.std.specs.Prelude.{◌≡◌, [], ◌∷◌, ◌++◌, Some, map};
 ghost use Rattle.cp_io.specs.declared.role.Way.TheVariants.{Out};
