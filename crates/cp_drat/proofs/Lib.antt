@@ -2,5 +2,6 @@ pub mod Accepted
 pub mod Counts
 pub mod Cuts
 pub mod Lines
+pub mod Refuted
 pub mod Rows
 pub mod RupAdditions

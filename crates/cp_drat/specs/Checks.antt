@@ -1,11 +1,12 @@
 -- What a checker of DRAT does with a log. It holds a list of clauses, of which two may be the same.
-use Rattle.std.specs.Prelude.{ℕ, List, [], ◌∷◌, ◌++◌, Bool, ◌&&◌, ◌⊎◌, if◌then◌else◌}
+use Rattle.std.specs.Prelude.{ℕ, List, [], ◌∷◌, ◌++◌, Bool, ◌&&◌, ◌⊎◌, if◌then◌else◌, IsTrue, IsFalse}
 use Rattle.cp_logic.specs.declared.settings.Rules.{Rules}
 use Rattle.cp_logic.specs.Clauses.{is_subset}
+use Rattle.cp_logic.specs.Assignments.{satisfies_all}
 use Rattle.cp_logic.specs.Propagation.{IsRup, IsRatOn}
 use Rattle.cp_logic.specs.Formulas.{Formula, IsFormula, clauses_of}
 use Rattle.cp_logic.specs.Journals.{Post, IsLegalJournal}
-use Rattle.cp_drat.specs.Log.{Item, Lemma, Deletion, log_of}
+use Rattle.cp_drat.specs.Log.{Item, Lemma, Deletion, has_end, log_of}
 
 -- whether the two have the same literals
 abbrev pub is_same_set : List ℕ → List ℕ → Bool
@@ -51,3 +52,7 @@ LemmasAreRup = (f : Formula) (rules : Rules) (posts : List Post) → IsFormula f
 -- so a checker that starts with the formula accepts the log
 abbrev pub LogIsAccepted : Type 0
 LogIsAccepted = (f : Formula) (rules : Rules) (posts : List Post) → IsFormula f → IsLegalJournal f rules posts → IsAccepted (clauses_of f.clauses) (log_of posts)
+
+-- clauses from which a log of RUP lemmas comes to the empty clause have no model
+abbrev pub RupLogRefutes : Type 0
+RupLogRefutes = (clauses : List (List ℕ)) (items : List Item) → IsRupLog clauses items → IsTrue (has_end items) → (values : List Bool) → IsFalse (satisfies_all values clauses)
