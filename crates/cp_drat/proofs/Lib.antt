@@ -1,6 +1,7 @@
 pub mod Accepted
 pub mod Counts
 pub mod Cuts
+pub mod Ends
 pub mod Lines
 pub mod Refuted
 pub mod Rows

@@ -4,8 +4,8 @@ use Rattle.cp_logic.specs.declared.settings.Rules.{Rules}
 use Rattle.cp_logic.specs.Clauses.{is_subset}
 use Rattle.cp_logic.specs.Assignments.{satisfies_all}
 use Rattle.cp_logic.specs.Propagation.{IsRup, IsRatOn}
-use Rattle.cp_logic.specs.Formulas.{Formula, IsFormula, clauses_of}
-use Rattle.cp_logic.specs.Journals.{Post, IsLegalJournal}
+use Rattle.cp_logic.specs.Formulas.{Formula, IsFormula, clauses_of, has_empty}
+use Rattle.cp_logic.specs.Journals.{Post, IsLegalJournal, folded}
 use Rattle.cp_drat.specs.Log.{Item, Lemma, Deletion, has_end, log_of}
 
 -- whether the two have the same literals
@@ -56,3 +56,7 @@ LogIsAccepted = (f : Formula) (rules : Rules) (posts : List Post) → IsFormula 
 -- clauses from which a log of RUP lemmas comes to the empty clause have no model
 abbrev pub RupLogRefutes : Type 0
 RupLogRefutes = (clauses : List (List ℕ)) (items : List Item) → IsRupLog clauses items → IsTrue (has_end items) → (values : List Bool) → IsFalse (satisfies_all values clauses)
+
+-- where the posts lead to the empty clause, which the formula didn't have, their log has it
+abbrev pub LogHasEnd : Type 0
+LogHasEnd = (f : Formula) (posts : List Post) → IsFalse (has_empty f.clauses) → IsTrue (has_empty (folded f posts).formula.clauses) → IsTrue (has_end (log_of posts))

@@ -15,9 +15,9 @@
 //! shorter, and the literal on which one was blocked, aren't told: a checker finds the first by propagation, and needs the second only
 //! to complete a model.
 //!
-//! Each lemma of a legal journal is RUP where it stands, and needs no RAT: the law is in `laws`. What is RUP stays so among more
-//! clauses, so a checker that passes over deletions, as some do with those of unit clauses, takes the log too. A formula that has the
-//! empty clause from the start has no legal step, and its log is empty.
+//! Each lemma of a legal journal is RUP where it stands, and needs no RAT; and where the journal comes to the empty clause, the log
+//! has it: `laws` has both. What is RUP stays so among more clauses, so a checker that passes over deletions, as some do with those
+//! of unit clauses, takes the log too. A formula that has the empty clause from the start has no legal step, and its log is empty.
 
 ghost use Rattle.std.specs.Prelude.{◌≡◌, [], ◌∷◌, ◌++◌, Some, map};
 ghost use Rattle.cp_io.specs.declared.role.Way.TheVariants.{Out};
