@@ -1,0 +1,8 @@
+pub mod Accepted
+pub mod Counts
+pub mod Cuts
+pub mod Ends
+pub mod Lines
+pub mod Refuted
+pub mod Rows
+pub mod RupAdditions

@@ -1,0 +1,26 @@
+-- Lines that are printed one after the other: some of a text is printed, and what is left of it.
+use Rattle.std.proofs.Common.{◌≡◌, List, [], ◌++◌, refl, sym, ◌∙◌, ap, subst, append_assoc, ℕ}
+use Rattle.std.proofs.lemmas.List.{append-nil}
+use Rattle.cp_io.specs.declared.role.Role.{Role}
+use Rattle.cp_io.specs.Port.{Ports}
+use Rattle.cp_io.specs.Prints.{Buffered, Prints}
+use Rattle.cp_io.proofs.Printing.{Prints-then}
+
+-- some of the text is printed, and this is left
+abbrev pub PrintsUpTo : Role → List ℕ → List ℕ → Buffered → Ports → Buffered → Ports → Type 0
+PrintsUpTo role whole left p old q new = (done : List ℕ) × Prints role done p old q new × (done ++ left ≡ whole)
+
+-- the next part of what is left is printed
+pub Prints-step : {role : Role} {part : List ℕ} (whole left next : List ℕ) {p q r : Buffered} {old mid new : Ports}
+    → left ≡ part ++ next → PrintsUpTo role whole left p old q mid → Prints role part q mid r new → PrintsUpTo role whole next p old r new
+Prints-step {part = part} whole left next is m n = (m.0 ++ part, Prints-then m.1 n, append_assoc m.0 part next ∙ ap (λ t. m.0 ++ t) (sym is) ∙ m.2)
+
+-- nothing is left
+pub Prints-whole : {role : Role} (whole left : List ℕ) {p q : Buffered} {old new : Ports} → left ≡ [] → PrintsUpTo role whole left p old q new → Prints role whole p old q new
+Prints-whole {role = role} whole left {p = p} {q = q} {old = old} {new = new} none m =
+    subst (λ t. Prints role t p old q new) (sym (append-nil m.0) ∙ ap (λ t. m.0 ++ t) (sym none) ∙ m.2) m.1
+
+-- the last part of what is left is printed
+pub Prints-last : {role : Role} {part : List ℕ} (whole left : List ℕ) {p q r : Buffered} {old mid new : Ports}
+    → left ≡ part → PrintsUpTo role whole left p old q mid → Prints role part q mid r new → Prints role whole p old r new
+Prints-last {part = part} whole left is m n = Prints-whole whole [] refl (Prints-step whole left [] (is ∙ sym (append-nil part)) m n)

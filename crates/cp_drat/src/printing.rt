@@ -1,0 +1,183 @@
+//! Printing the DRAT proof of a journal to a desk, through a buffer and without taking memory.
+//!
+//! DRAT (Wetzler, Heule, Hunt, SAT 2014) is a list of lemmas and deletions. A checker starts with the clauses of the formula. It
+//! takes a lemma in where that is RUP, or RAT on its first literal, with respect to the clauses that it holds at this place, and a
+//! deletion, a line behind a `d`, takes one clause out. A proof of unsatisfiability ends with the empty clause.
+//!
+//! The text form is the one that each checker reads: a lemma is its literals and a 0. As in CaDiCaL's `drattracer.cpp` each change of
+//! the clauses is a line where it happens, so the log is the journal gone through once, with nothing kept beside it. Two orders
+//! matter. The new clause stands before the old one is deleted, since the old one is what shows that the new one is implied: so a
+//! shorter clause comes before the one that it replaces, and resolvents before the clauses of their variable. And nothing follows
+//! the empty clause, with which a checker is done.
+//!
+//! A deletion names a clause by its literals, as the format has no numbers. The clause that a checker takes out may thus be another
+//! one than the journal's where two have the same literals, and what is left is the same. A clause by which another was made
+//! shorter, and the literal on which one was blocked, aren't told: a checker finds the first by propagation, and needs the second only
+//! to complete a model.
+//!
+//! Each lemma of a legal journal is RUP where it stands, and needs no RAT; and where the journal comes to the empty clause, the log
+//! has it: `laws` has both. What is RUP stays so among more clauses, so a checker that passes over deletions, as some do with those
+//! of unit clauses, takes the log too. A formula that has the empty clause from the start has no legal step, and its log is empty.
+
+ghost use Rattle.std.specs.Prelude.{◌≡◌, [], ◌∷◌, ◌++◌, Some, map};
+ghost use Rattle.cp_io.specs.declared.role.Way.TheVariants.{Out};
+ghost use Rattle.cp_io.specs.declared.role.Role.TheVariants.{Proof};
+ghost use Rattle.cp_io.specs.Port.{AtRole, Writes};
+ghost use Rattle.cp_io.specs.Prints.{Prints};
+ghost use Rattle.cp_logic.specs.Views.{entry_of, post_of};
+ghost use Rattle.cp_drat.specs.Log.{Lemma, Deletion, lemma_of, deletion_of, items_of, cut, has_end, is_end, log_of};
+ghost use Rattle.cp_drat.specs.Text.{log_text, item_text, clause_text, literal_part, sign_text};
+
+use cp_io::{Desk, Failed, OutputBuffer, Role};
+use cp_logic::{Clause, Entry, Journal, Lit, Named, Post};
+
+/// Prints the DRAT proof of a journal to the role Proof, up to the first empty clause. It takes no memory.
+///
+/// Where a write fails, a front of the text was written.
+pub fn print_log<D: Desk>(desk: &mut D, journal: &Journal) -> Result<(), Failed>
+    requires { (D.port desk.old Proof).way ≡ Some Out }
+    ensures { AtRole Proof (Writes (log_text (log_of journal.now.items)) result) (D.port desk.old) (D.port desk.new) }
+{
+    let mut buffer = OutputBuffer::new();
+    put_posts(&mut buffer, desk, journal.as_slice());
+    buffer.finish(desk, Role::Proof)
+}
+
+fn put_posts<D: Desk>(buffer: &mut OutputBuffer, desk: &mut D, posts: &[Post])
+    requires { (D.port desk.old Proof).way ≡ Some Out }
+    ensures prints { Prints Proof (log_text (log_of (map (λ p. post_of p) posts.now))) buffer.old (D.port desk.old) buffer.new (D.port desk.new) }
+    ensures bound { (D.port desk.new Proof).way ≡ Some Out }
+{
+    for post in posts {
+        if put_entry(buffer, desk, &post.entry) {
+            return;
+        }
+    }
+}
+
+// Answers whether the empty clause was added, behind which nothing is printed.
+fn put_entry<D: Desk>(buffer: &mut OutputBuffer, desk: &mut D, entry: &Entry) -> bool
+    requires { (D.port desk.old Proof).way ≡ Some Out }
+    ensures prints { Prints Proof (log_text (cut (items_of (entry_of entry.now)))) buffer.old (D.port desk.old) buffer.new (D.port desk.new) }
+    ensures bound { (D.port desk.new Proof).way ≡ Some Out }
+    ensures ends { result ≡ has_end (items_of (entry_of entry.now)) }
+{
+    match entry {
+        Entry::Taut { gone } => put_deletion(buffer, desk, &gone.clause),
+        Entry::Subsume { gone, .. } => put_deletion(buffer, desk, &gone.clause),
+        Entry::Strengthen { on, new, .. } => return put_shorter(buffer, desk, on, new),
+        Entry::Block { gone, .. } => put_deletion(buffer, desk, &gone.clause),
+        Entry::Eliminate { pos, neg, new, .. } => {
+            return put_resolvents(buffer, desk, pos.as_slice(), neg.as_slice(), new.as_slice());
+        }
+        Entry::Look { .. } => {}
+    }
+    false
+}
+
+fn put_shorter<D: Desk>(buffer: &mut OutputBuffer, desk: &mut D, on: &Named, new: &Named) -> bool
+    requires { (D.port desk.old Proof).way ≡ Some Out }
+    ensures prints { Prints Proof (log_text (cut (lemma_of new.now ∷ deletion_of on.now ∷ []))) buffer.old (D.port desk.old) buffer.new (D.port desk.new) }
+    ensures bound { (D.port desk.new Proof).way ≡ Some Out }
+    ensures ends { result ≡ has_end (lemma_of new.now ∷ deletion_of on.now ∷ []) }
+{
+    if put_lemma(buffer, desk, &new.clause) {
+        return true;
+    }
+    put_deletion(buffer, desk, &on.clause);
+    false
+}
+
+fn put_resolvents<D: Desk>(
+    buffer: &mut OutputBuffer,
+    desk: &mut D,
+    pos: &[Named],
+    neg: &[Named],
+    new: &[Named],
+) -> bool
+    requires { (D.port desk.old Proof).way ≡ Some Out }
+    ensures prints { Prints Proof (log_text (cut (map lemma_of new.now ++ (map deletion_of pos.now ++ map deletion_of neg.now)))) buffer.old (D.port desk.old) buffer.new (D.port desk.new) }
+    ensures bound { (D.port desk.new Proof).way ≡ Some Out }
+    ensures ends { result ≡ has_end (map lemma_of new.now ++ (map deletion_of pos.now ++ map deletion_of neg.now)) }
+{
+    if put_lemmas(buffer, desk, new) {
+        return true;
+    }
+    put_deletions(buffer, desk, pos);
+    put_deletions(buffer, desk, neg);
+    false
+}
+
+// Answers whether the empty clause was added.
+fn put_lemmas<D: Desk>(buffer: &mut OutputBuffer, desk: &mut D, list: &[Named]) -> bool
+    requires { (D.port desk.old Proof).way ≡ Some Out }
+    ensures prints { Prints Proof (log_text (cut (map lemma_of list.now))) buffer.old (D.port desk.old) buffer.new (D.port desk.new) }
+    ensures bound { (D.port desk.new Proof).way ≡ Some Out }
+    ensures ends { result ≡ has_end (map lemma_of list.now) }
+{
+    for named in list {
+        if put_lemma(buffer, desk, &named.clause) {
+            return true;
+        }
+    }
+    false
+}
+
+fn put_deletions<D: Desk>(buffer: &mut OutputBuffer, desk: &mut D, list: &[Named])
+    requires { (D.port desk.old Proof).way ≡ Some Out }
+    ensures prints { Prints Proof (log_text (map deletion_of list.now)) buffer.old (D.port desk.old) buffer.new (D.port desk.new) }
+    ensures bound { (D.port desk.new Proof).way ≡ Some Out }
+{
+    for named in list {
+        put_deletion(buffer, desk, &named.clause);
+    }
+}
+
+// Answers whether the lemma is the empty clause.
+fn put_lemma<D: Desk>(buffer: &mut OutputBuffer, desk: &mut D, clause: &Clause) -> bool
+    requires { (D.port desk.old Proof).way ≡ Some Out }
+    ensures prints { Prints Proof (item_text (Lemma clause.now)) buffer.old (D.port desk.old) buffer.new (D.port desk.new) }
+    ensures bound { (D.port desk.new Proof).way ≡ Some Out }
+    ensures ends { result ≡ is_end (Lemma clause.now) }
+{
+    let lits = clause.lits();
+    put_clause(buffer, desk, lits);
+    lits.is_empty()
+}
+
+fn put_deletion<D: Desk>(buffer: &mut OutputBuffer, desk: &mut D, clause: &Clause)
+    requires { (D.port desk.old Proof).way ≡ Some Out }
+    ensures prints { Prints Proof (item_text (Deletion clause.now)) buffer.old (D.port desk.old) buffer.new (D.port desk.new) }
+    ensures bound { (D.port desk.new Proof).way ≡ Some Out }
+{
+    buffer.put(desk, Role::Proof, b"d ");
+    put_clause(buffer, desk, clause.lits());
+}
+
+fn put_clause<D: Desk>(buffer: &mut OutputBuffer, desk: &mut D, lits: &[Lit])
+    requires { (D.port desk.old Proof).way ≡ Some Out }
+    ensures prints { Prints Proof (clause_text lits.now) buffer.old (D.port desk.old) buffer.new (D.port desk.new) }
+    ensures bound { (D.port desk.new Proof).way ≡ Some Out }
+{
+    for lit in lits {
+        put_literal(buffer, desk, *lit);
+    }
+    buffer.put(desk, Role::Proof, b"0\n");
+}
+
+fn put_literal<D: Desk>(buffer: &mut OutputBuffer, desk: &mut D, lit: Lit)
+    requires { (D.port desk.old Proof).way ≡ Some Out }
+    ensures prints { Prints Proof (literal_part lit) buffer.old (D.port desk.old) buffer.new (D.port desk.new) }
+    ensures bound { (D.port desk.new Proof).way ≡ Some Out }
+{
+    let mut number = itoa::Buffer::new();
+    buffer.put(desk, Role::Proof, sign(lit.is_positive()));
+    buffer.put(desk, Role::Proof, number.format(lit.var()).as_bytes());
+    buffer.put_byte(desk, Role::Proof, b' ');
+}
+
+fn sign(positive: bool) -> &'static [u8]
+    ensures { result.now ≡ sign_text positive }
+{
+    if positive { b"" } else { b"-" }
+}
