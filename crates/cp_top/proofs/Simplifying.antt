@@ -16,6 +16,8 @@ use Rattle.cp_logic.proofs.Complete.{nothing-missed}
 use Rattle.cp_logic.proofs.JournalRuns.{journal-run, journal-satisfiable, journal-completed}
 use Rattle.cp_top.specs.Simplified.{IsSimplified, NothingApplies}
 use Rattle.cp_sweep.specs.Swept.{IsSwept}
+use Rattle.cp_drat.proofs.Accepted.{lemmas-rup, log-accepted}
+use Rattle.cp_drat.proofs.Ends.{log-end}
 
 -- the three tests of a stop, where it says None
 tests_of_none : (empty spent applicable : Bool)
@@ -77,4 +79,7 @@ swept-simplified f rules posts left stopped v s = record {
   satisfiable = journal-satisfiable f rules posts v s.legal;
   stop = s.stop;
   fixpoint = λ none. stop-fixpoint f rules posts (sym s.stop ∙ none);
+  rup = lemmas-rup f rules posts v s.legal;
+  accepted = log-accepted f rules posts v s.legal;
+  ended = log-end f posts;
 }

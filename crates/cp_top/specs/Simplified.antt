@@ -1,14 +1,16 @@
 -- What it means that a journal simplifies a formula: it is one legal run in the sweep's order, models go back, and nothing is left to do.
-use Rattle.std.specs.Prelude.{◌≡◌, ◌≤◌, ◌↔◌, ℕ, Bool, Option, None, List, [], length, IsTrue}
+use Rattle.std.specs.Prelude.{◌≡◌, ◌≤◌, ◌↔◌, ℕ, Bool, Option, None, List, [], length, IsTrue, IsFalse}
 use Rattle.cp_logic.specs.declared.settings.Rules.{Rules}
 use Rattle.cp_logic.specs.declared.settings.Stop.{Stop}
 use Rattle.cp_logic.specs.Assignments.{satisfies_all, completed, IsSatisfiable}
-use Rattle.cp_logic.specs.Formulas.{Formula, clauses_of}
+use Rattle.cp_logic.specs.Formulas.{Formula, clauses_of, has_empty}
 use Rattle.cp_logic.specs.Rules.{IsRun}
 use Rattle.cp_logic.specs.Entries.{Entry, is_at}
 use Rattle.cp_logic.specs.Legality.{is_legal}
 use Rattle.cp_logic.specs.Journals.{Post, IsLegalJournal, expansion, folded, start_of}
 use Rattle.cp_logic.specs.Sweeps.{IsSweep, stop_of}
+use Rattle.cp_drat.specs.Checks.{IsAccepted, IsRupLog}
+use Rattle.cp_drat.specs.Log.{has_end, log_of}
 
 -- no entry of a chosen technique is legal at any variable
 abbrev pub NothingApplies : Formula → Rules → Type 0
@@ -28,3 +30,8 @@ pub record IsSimplified (f : Formula) (rules : Rules) (posts : List Post) (stopp
   -- why the run stopped, and that nothing is left to do where it says None
   pub stop : stopped ≡ stop_of f rules posts
   pub fixpoint : stopped ≡ None → NothingApplies (folded f posts).formula rules
+  -- each lemma of the log is RUP where it stands, so a checker that starts with the formula accepts the log
+  pub rup : IsRupLog (clauses_of f.clauses) (log_of posts)
+  pub accepted : IsAccepted (clauses_of f.clauses) (log_of posts)
+  -- where the posts lead to the empty clause, which the formula didn't have, so does the log
+  pub ended : IsFalse (has_empty f.clauses) → IsTrue (has_empty (folded f posts).formula.clauses) → IsTrue (has_end (log_of posts))

@@ -1,0 +1,42 @@
+use Rattle.std.proofs.Common.{[], ◌∷◌, refl, sym, ◌∙◌}
+use Rattle.cp_io.specs.declared.role.Role.TheVariants.{Cnf, Reduced, Stack, Proof}
+use Rattle.cp_io.specs.declared.role.Way.TheVariants.{In, Out}
+use Rattle.cp_top.specs.Bindings.{bind}
+use Rattle.cp_top.specs.Commands.{std_name, none_name}
+use Rattle.cp_top.proofs.RolesBound.{none-bound, bound-on, bound-off}
+use Rattle.cp_top.proofs.Simplify.{bound-1, bound-2, bound-3}
+use Rattle.cp_top.proofs.binding.bind_simplify.Goals as goal
+
+pub returns-then-is_err : goal.returns-then-is_err
+returns-then-is_err g c =
+    let old = g.D.Desk.port c.args.desk.now in
+    bound-off [] Cnf In std_name old old (g.D.Desk.port c.bind.new.self) (none-bound old c.requires) refl c.bind.result (sym c.is_err.ensures.value ∙ c.if-is_err.true) c.bind.ensures
+    (bind Reduced Out std_name ∷ (bind Stack Out none_name ∷ (bind Proof Out none_name ∷ [])))
+
+pub returns-then-is_err-2 : goal.returns-then-is_err-2
+returns-then-is_err-2 g c =
+    let old = g.D.Desk.port c.args.desk.now in let p1 = g.D.Desk.port c.bind.new.self in
+    bound-off (bind Cnf In std_name ∷ []) Reduced Out std_name old p1 (g.D.Desk.port c.bind-2.new.self)
+    (bound-1 old p1 p1 p1 c.bind.result c.bind.result c.bind.result c.requires c.bind.ensures (sym c.is_err.ensures.value ∙ c.if-is_err.false)) refl
+    c.bind-2.result (sym c.is_err-2.ensures.value ∙ c.if-is_err-2.true) c.bind-2.ensures (bind Stack Out none_name ∷ (bind Proof Out none_name ∷ []))
+
+pub returns-then-is_err-3 : goal.returns-then-is_err-3
+returns-then-is_err-3 g c =
+    let old = g.D.Desk.port c.args.desk.now in let p1 = g.D.Desk.port c.bind.new.self in let p2 = g.D.Desk.port c.bind-2.new.self in
+    bound-off (bind Cnf In std_name ∷ (bind Reduced Out std_name ∷ [])) Stack Out none_name old p2 (g.D.Desk.port c.bind-3.new.self)
+    (bound-2 old p1 p2 p2 c.bind.result c.bind-2.result c.bind.result c.requires c.bind.ensures (sym c.is_err.ensures.value ∙ c.if-is_err.false) c.bind-2.ensures (sym c.is_err-2.ensures.value ∙ c.if-is_err-2.false)) refl
+    c.bind-3.result (sym c.is_err-3.ensures.value ∙ c.if-is_err-3.true) c.bind-3.ensures (bind Proof Out none_name ∷ [])
+
+pub returns-then-is_err-4 : goal.returns-then-is_err-4
+returns-then-is_err-4 g c =
+    let old = g.D.Desk.port c.args.desk.now in let p1 = g.D.Desk.port c.bind.new.self in let p2 = g.D.Desk.port c.bind-2.new.self in let p3 = g.D.Desk.port c.bind-3.new.self in
+    bound-off (bind Cnf In std_name ∷ (bind Reduced Out std_name ∷ (bind Stack Out none_name ∷ []))) Proof Out none_name old p3 (g.D.Desk.port c.bind-4.new.self)
+    (bound-3 old p1 p2 p3 c.bind.result c.bind-2.result c.bind-3.result c.requires c.bind.ensures (sym c.is_err.ensures.value ∙ c.if-is_err.false) c.bind-2.ensures (sym c.is_err-2.ensures.value ∙ c.if-is_err-2.false) c.bind-3.ensures (sym c.is_err-3.ensures.value ∙ c.if-is_err-3.false)) refl
+    c.bind-4.result (sym c.is_err-4.ensures.value ∙ c.if-is_err-4.true) c.bind-4.ensures []
+
+pub returns : goal.returns
+returns g c =
+    let old = g.D.Desk.port c.args.desk.now in let p1 = g.D.Desk.port c.bind.new.self in let p2 = g.D.Desk.port c.bind-2.new.self in let p3 = g.D.Desk.port c.bind-3.new.self in
+    bound-on (bind Cnf In std_name ∷ (bind Reduced Out std_name ∷ (bind Stack Out none_name ∷ []))) Proof Out none_name old p3 (g.D.Desk.port c.bind-4.new.self)
+    (bound-3 old p1 p2 p3 c.bind.result c.bind-2.result c.bind-3.result c.requires c.bind.ensures (sym c.is_err.ensures.value ∙ c.if-is_err.false) c.bind-2.ensures (sym c.is_err-2.ensures.value ∙ c.if-is_err-2.false) c.bind-3.ensures (sym c.is_err-3.ensures.value ∙ c.if-is_err-3.false)) refl
+    c.bind-4.result (sym c.is_err-4.ensures.value ∙ c.if-is_err-4.false) c.bind-4.ensures
