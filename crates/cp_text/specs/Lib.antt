@@ -1,0 +1,5 @@
+pub mod Collected
+pub mod Cut
+pub mod Items
+pub mod Numbers
+pub mod Text

@@ -1,0 +1,62 @@
+//! What is seen of an input that may be longer than its limit.
+
+ghost use Rattle.std.specs.Prelude.{◌≡◌, ◌+◌, ◌<◌, ◌^◌, length};
+ghost use Rattle.cp_text.specs.Items.{IsNextSeen};
+ghost use Rattle.cp_text.specs.Cut.{goes_on, IsSeen};
+
+use crate::text::{Item, is_separator, next_item};
+
+/// The bytes of an input within its limit.
+#[derive(Drop)]
+pub struct Seen<'a> {
+    /// The bytes within the limit.
+    pub text: &'a [u8],
+    /// Whether a word goes on right behind them. Then the last word, if it ends where they end, isn't looked at.
+    pub cut: bool,
+    /// Whether the input is longer than the limit.
+    pub past: bool,
+}
+
+/// What a limit of bytes lets a reader see of an input.
+pub fn within(input: &[u8], limit: u64) -> Seen<'_>
+    ensures { IsSeen limit input.now result }
+{
+    if input.len() as u64 <= limit {
+        return Seen {
+            text: input,
+            cut: false,
+            past: false,
+        };
+    }
+    let (text, behind) = input.split_at(limit as usize);
+    Seen {
+        text,
+        cut: begins_in_word(behind),
+        past: true,
+    }
+}
+
+fn begins_in_word(bytes: &[u8]) -> bool
+    ensures { result ≡ goes_on bytes.now }
+{
+    match bytes {
+        [] => false,
+        [first, ..] => !is_separator(*first),
+    }
+}
+
+/// The next item of a text that begins at a place, where a last word that is cut isn't looked at.
+pub fn next_seen(text: &[u8], place: u64, cut: bool) -> Item<'_>
+    requires { place + length text.now < 2 ^ 64 }
+    ensures { IsNextSeen cut place text.now result }
+{
+    let item = next_item(text, place);
+    if let Item::Word { rest, .. } = &item {
+        if cut && rest.is_empty() {
+            return Item::End {
+                at: place + text.len() as u64,
+            };
+        }
+    }
+    item
+}
