@@ -14,7 +14,7 @@ use Rattle.cp_io.specs.ReadsUpTo.{ReadsUpTo}
 use Rattle.cp_logic.specs.declared.pairs.Stack.{Stack as HeldStack}
 use Rattle.cp_logic.specs.Slots.{Held}
 use Rattle.cp_dimacs.specs.Grammar.{reads}
-use Rattle.cp_dimacs.proofs.Front.{reads-front as formula-front}
+use Rattle.cp_dimacs.proofs.Few.{reads-within as formula-front}
 use Rattle.cp_stack.specs.Grammar.{stack_reads}
 use Rattle.cp_stack.proofs.Front.{reads-front as stack-front}
 use Rattle.cp_extend.specs.Grammar.{model_reads}

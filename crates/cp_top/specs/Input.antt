@@ -10,8 +10,8 @@ use Rattle.cp_logic.specs.Formulas.{Formula, IsFormula}
 use Rattle.cp_logic.specs.Journals.{number_limit}
 use Rattle.cp_logic.specs.Pairs.{pairs_of}
 use Rattle.cp_logic.specs.Slots.{Held}
-use Rattle.cp_dimacs.specs.declared.stub.CnfRefusal.{CnfRefusal}
-use Rattle.cp_dimacs.specs.declared.stub.CnfRefusal.TheVariants as cnf
+use Rattle.cp_dimacs.specs.declared.refusal.CnfRefusal.{CnfRefusal}
+use Rattle.cp_dimacs.specs.declared.refusal.CnfRefusal.TheVariants as cnf
 use Rattle.cp_dimacs.specs.Grammar.{reads}
 use Rattle.cp_stack.specs.declared.stub.StackRefusal.{StackRefusal}
 use Rattle.cp_stack.specs.declared.stub.StackRefusal.TheVariants as stacks
