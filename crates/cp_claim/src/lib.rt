@@ -14,4 +14,3 @@ mod view;
 
 pub use claims::Claims;
 pub use seat::ClaimSeat;
-pub use view::ClaimView;

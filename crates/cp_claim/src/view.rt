@@ -3,8 +3,8 @@ use atomic_table::{Seat, Table, TableRule};
 use std::alloc::Global;
 use std::marker::Model;
 
-/// What a seat knows. No value of it is made: contracts alone speak of it.
-pub struct ClaimView {}
+// What a seat knows. No value of it is made: contracts alone speak of it.
+pub(crate) struct ClaimView {}
 
 impl Model for ClaimView {
     ghost use Rattle.cp_claim.specs.Views.{View, spent};
