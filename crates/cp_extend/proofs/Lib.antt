@@ -1,5 +1,6 @@
 pub mod Answers
 pub mod Completions
+pub mod Lengths
 pub mod Lines
 pub mod Pieces
 pub mod ReadingRows

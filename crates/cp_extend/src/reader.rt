@@ -29,7 +29,8 @@ pub fn parse_model(
     limits: &Limits,
 ) -> Result<Assignment, ModelRefusal>
     requires { vars ≤ 2000000 }
-    ensures { AnswersModel limits.now vars bytes.now result }
+    ensures answers { AnswersModel limits.now vars bytes.now result }
+    ensures len { IfOk result (λ values. length values ≡ vars) }
 {
     let mut model = Assignment::new(alloc, vars)?;
     read_into(alloc, &mut model, bytes, limits)?;

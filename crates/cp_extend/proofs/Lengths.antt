@@ -1,0 +1,19 @@
+-- A model that is read has a value for each of the variables.
+use Rattle.std.proofs.Common.{◌≡◌, ℕ, ◌+◌, Bool, true, List, length, Result, Ok, Err, sym, ◌∙◌, ap}
+use Rattle.std.specs.Prelude.{nat_lt}
+use Rattle.std.proofs.lemmas.List.FromFn.{length-map-range_with_len}
+use Rattle.cp_io.specs.declared.limits.Limits.{Limits}
+use Rattle.cp_text.specs.Cut.{lines_within}
+use Rattle.cp_extend.specs.declared.refusal.ModelRefusal.{ModelRefusal}
+use Rattle.cp_extend.specs.declared.refusal.Stop.{Stop}
+use Rattle.cp_extend.specs.Grammar.{Given, is_value, values_of, nothing_read, document, answer, model_reads}
+
+answer-length : (limits : Limits) (variables : ℕ) (past : Bool) (found : Result Given Stop) (values : List Bool) → answer limits variables past found ≡ Ok values → length values ≡ variables
+answer-length limits variables past (Ok given) values is =
+    let same : values_of variables given ≡ values = cc in
+    ap length (sym same) ∙ length-map-range_with_len (λ k. is_value true (given (k + 1))) 0 variables
+answer-length limits variables past (Err stop) values is = cc
+
+pub reads-length : (limits : Limits) (variables : ℕ) (bytes : List ℕ) (values : List Bool) → model_reads limits variables bytes ≡ Ok values → length values ≡ variables
+unfolding model_reads
+reads-length limits variables bytes values is = answer-length limits variables (nat_lt limits.bytes (length bytes)) (document limits nothing_read 0 (lines_within limits.bytes bytes)) values is
