@@ -1,9 +1,10 @@
--- A model that is read has a value for each of the variables.
-use Rattle.std.proofs.Common.{◌≡◌, ℕ, ◌+◌, Bool, true, List, length, Result, Ok, Err, sym, ◌∙◌, ap}
+-- What a model reads as: a value for each of the variables, and nothing that hangs on bytes past the limit.
+use Rattle.std.proofs.Common.{◌≡◌, ℕ, ◌+◌, Bool, true, List, length, take, refl, Result, Ok, Err, sym, ◌∙◌, ap}
 use Rattle.std.specs.Prelude.{nat_lt}
 use Rattle.std.proofs.lemmas.List.FromFn.{length-map-range_with_len}
 use Rattle.cp_io.specs.declared.limits.Limits.{Limits}
 use Rattle.cp_text.specs.Cut.{lines_within}
+use Rattle.cp_text.proofs.Cuts.{sees-within}
 use Rattle.cp_extend.specs.declared.refusal.ModelRefusal.{ModelRefusal}
 use Rattle.cp_extend.specs.declared.refusal.Stop.{Stop}
 use Rattle.cp_extend.specs.Grammar.{Given, is_value, values_of, nothing_read, document, answer, model_reads}
@@ -17,3 +18,8 @@ answer-length limits variables past (Err stop) values is = cc
 pub reads-length : (limits : Limits) (variables : ℕ) (bytes : List ℕ) (values : List Bool) → model_reads limits variables bytes ≡ Ok values → length values ≡ variables
 unfolding model_reads
 reads-length limits variables bytes values is = answer-length limits variables (nat_lt limits.bytes (length bytes)) (document limits nothing_read 0 (lines_within limits.bytes bytes)) values is
+
+-- what a text reads as depends on no byte behind the first past the limit
+pub reads-kept : (limits : Limits) (variables : ℕ) (bytes : List ℕ) → model_reads limits variables (take (limits.bytes + 1) bytes) ≡ model_reads limits variables bytes
+unfolding model_reads
+reads-kept limits variables bytes = let sees = sees-within limits.bytes bytes in rw (sees.0, sees.1) refl

@@ -5,3 +5,4 @@ pub mod ReadRows
 pub mod Resumed
 pub mod Rows
 pub mod TextRead
+pub mod Within

@@ -1,6 +1,6 @@
 //! Reading the text of a witness stack from its bytes.
 
-ghost use Rattle.std.specs.Prelude.{◌≡◌, Result};
+ghost use Rattle.std.specs.Prelude.{◌≡◌, ◌≤◌, IfOk, Result};
 ghost use Rattle.cp_io.specs.Limits.{IsWithinStandard};
 ghost use Rattle.cp_stack.specs.declared.refusal.StackRefusal.{StackRefusal as Refusal};
 ghost use Rattle.cp_stack.specs.Ahead.{lines_of};
@@ -21,7 +21,8 @@ use std::alloc::Global;
 /// A text that is longer than its limit has no stack: a fault before the limit is answered, and else `TooLarge` at the limit.
 pub fn parse_stack(alloc: Global, bytes: &[u8], limits: &Limits) -> Result<Stack, StackRefusal>
     requires { IsWithinStandard limits.now }
-    ensures { AnswersStack limits.now bytes.now result }
+    ensures answers { AnswersStack limits.now bytes.now result }
+    ensures few { IfOk result (λ s. s.vars ≤ limits.now.variables) }
 {
     let seen = within(bytes, limits.bytes);
     let text = Ahead {

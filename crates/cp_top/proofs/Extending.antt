@@ -15,7 +15,8 @@ use Rattle.cp_extend.specs.ModelText.{model_text}
 use Rattle.cp_top.specs.Bindings.{bind, BoundSoFar}
 use Rattle.cp_top.specs.Texts.{write, NothingGrew, HaveGrown, HaveStopped}
 use Rattle.cp_top.specs.Commands.{std_name, stack_name, extend_bindings, extend_texts}
-use Rattle.cp_top.specs.Input.{StackReads, ModelReads, ReadsStack, ReadsModel, said_by}
+use Rattle.cp_top.specs.Input.{StackReads, ModelReads, ReadsStack, ReadsModel}
+use Rattle.cp_stack.specs.Reads.{stack_of}
 use Rattle.cp_top.specs.Extension.{ReadsBoth, PrintsFull, PrintsFullFront}
 use Rattle.cp_top.proofs.RolesBound.{none-bound, bound-on, bound-off}
 use Rattle.cp_top.proofs.TextsWritten.{none-written, written-on, written-off, grown-since, stopped-since}
@@ -38,8 +39,8 @@ module _ (old p1 p2 p3 new : Ports) (s : HeldStack) (values full : List Bool) (b
 
   pub reads_both : ReadsBoth old
   reads_both = record {
-    stack = said_by s;
-    pairs = subst (λ (o : Option (List ℕ)). StackReads o (Ok (said_by s))) (bound.rest.left Stack) rs.here.answer.says;
+    stack = stack_of s;
+    pairs = subst (λ (o : Option (List ℕ)). StackReads o (Ok (stack_of s))) (bound.rest.left Stack) rs.here.answer.says;
     values = values;
     model = subst (λ (o : Option (List ℕ)). ModelReads s.vars o (Ok values)) model_left rm.here.answer.says;
   }

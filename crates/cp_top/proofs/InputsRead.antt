@@ -16,9 +16,9 @@ use Rattle.cp_logic.specs.Slots.{Held}
 use Rattle.cp_dimacs.specs.Grammar.{reads}
 use Rattle.cp_dimacs.proofs.Few.{reads-within as formula-front}
 use Rattle.cp_stack.specs.Grammar.{stack_reads}
-use Rattle.cp_stack.proofs.Front.{reads-front as stack-front}
+use Rattle.cp_stack.proofs.TextRead.{reads-kept as stack-front}
 use Rattle.cp_extend.specs.Grammar.{model_reads}
-use Rattle.cp_extend.proofs.Front.{reads-front as model-front}
+use Rattle.cp_extend.proofs.Lengths.{reads-kept as model-front}
 use Rattle.cp_top.specs.declared.outcome.Refusal.{Refusal}
 use Rattle.cp_top.specs.declared.outcome.Refusal.TheVariants.{Usage, OpenFault, ReadFault, TooLarge, BadInput, BadStack, BadModel, NoModel, WriteFault, NoMemory}
 use Rattle.cp_top.specs.Input.{ReadsInput, OnlyReads, ReadsFormula, FormulaAnswer, FormulaSaid, ReadsStack, StackAnswer, StackSaid, ReadsModel, ModelAnswer, ModelSaid}

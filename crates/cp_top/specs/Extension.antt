@@ -6,10 +6,10 @@ use Rattle.cp_io.specs.declared.role.Role.TheVariants.{Stack, Model, Full}
 use Rattle.cp_io.specs.Port.{Ports}
 use Rattle.cp_logic.specs.Assignments.{completed}
 use Rattle.cp_logic.specs.Journals.{Post}
-use Rattle.cp_stack.specs.declared.stub.StackRefusal.TheVariants as stacks
-use Rattle.cp_stack.specs.Grammar.{StackText}
-use Rattle.cp_extend.specs.declared.stub.ModelRefusal.{ModelRefusal}
-use Rattle.cp_extend.specs.declared.stub.ModelRefusal.TheVariants as models
+use Rattle.cp_stack.specs.declared.refusal.StackRefusal.TheVariants as stacks
+use Rattle.cp_stack.specs.Grammar.{Stack as StackText}
+use Rattle.cp_extend.specs.declared.refusal.ModelRefusal.{ModelRefusal}
+use Rattle.cp_extend.specs.declared.refusal.ModelRefusal.TheVariants as models
 use Rattle.cp_top.specs.declared.outcome.Outcome.{Outcome}
 use Rattle.cp_top.specs.declared.outcome.Outcome.TheVariants.{Done, Extended, Refused}
 use Rattle.cp_top.specs.declared.outcome.Refusal.TheVariants.{Usage, OpenFault, ReadFault, TooLarge, BadInput, BadStack, BadModel, NoModel, WriteFault, NoMemory}

@@ -8,16 +8,16 @@ use Rattle.cp_io.specs.Port.{Port, Rose}
 use Rattle.cp_logic.specs.declared.pairs.Stack.{Stack as HeldStack}
 use Rattle.cp_logic.specs.Formulas.{Formula, IsFormula}
 use Rattle.cp_logic.specs.Journals.{number_limit}
-use Rattle.cp_logic.specs.Pairs.{pairs_of}
 use Rattle.cp_logic.specs.Slots.{Held}
 use Rattle.cp_dimacs.specs.declared.refusal.CnfRefusal.{CnfRefusal}
 use Rattle.cp_dimacs.specs.declared.refusal.CnfRefusal.TheVariants as cnf
 use Rattle.cp_dimacs.specs.Grammar.{reads}
-use Rattle.cp_stack.specs.declared.stub.StackRefusal.{StackRefusal}
-use Rattle.cp_stack.specs.declared.stub.StackRefusal.TheVariants as stacks
-use Rattle.cp_stack.specs.Grammar.{StackText, stack_reads}
-use Rattle.cp_extend.specs.declared.stub.ModelRefusal.{ModelRefusal}
-use Rattle.cp_extend.specs.declared.stub.ModelRefusal.TheVariants as models
+use Rattle.cp_stack.specs.declared.refusal.StackRefusal.{StackRefusal}
+use Rattle.cp_stack.specs.declared.refusal.StackRefusal.TheVariants as stacks
+use Rattle.cp_stack.specs.Grammar.{Stack as StackText, stack_reads}
+use Rattle.cp_stack.specs.Reads.{stack_of}
+use Rattle.cp_extend.specs.declared.refusal.ModelRefusal.{ModelRefusal}
+use Rattle.cp_extend.specs.declared.refusal.ModelRefusal.TheVariants as models
 use Rattle.cp_extend.specs.Grammar.{model_reads}
 use Rattle.cp_top.specs.declared.outcome.Refusal.{Refusal}
 use Rattle.cp_top.specs.declared.outcome.Refusal.TheVariants.{ReadFault, TooLarge, BadInput, BadStack, BadModel, NoModel, NoMemory}
@@ -50,10 +50,6 @@ pub record ReadsInput (role : Role) (result : Result (Vec ℕ) Refusal) (old new
   pub answer : InputAnswer role result old new
   pub only : OnlyReads old new
 
--- what the code's stack says
-abbrev pub said_by : HeldStack → StackText
-said_by s = record { variables = s.vars; pairs = pairs_of s.pairs }
-
 -- what a text says: a formula, which has numbers to spare, or why there is none
 abbrev pub FormulaSaid : List ℕ → Result Held Refusal → Type 0
 FormulaSaid text (Ok f) = (reads standard_limits text ≡ Ok f.formula) × IsFormula f.formula × (f.formula.next ≤ number_limit)
@@ -64,7 +60,7 @@ FormulaSaid text (Err refusal) = ⊥
 
 -- pairs, or why there are none
 abbrev pub StackSaid : List ℕ → Result HeldStack Refusal → Type 0
-StackSaid text (Ok s) = (stack_reads standard_limits text ≡ Ok (said_by s)) × (s.vars ≤ standard_limits.variables)
+StackSaid text (Ok s) = (stack_reads standard_limits text ≡ Ok (stack_of s)) × (s.vars ≤ standard_limits.variables)
 StackSaid text (Err (BadStack offset kind)) = stack_reads standard_limits text ≡ Err (stacks.BadStack offset kind)
 StackSaid text (Err (TooLarge role limit offset)) = (role ≡ Stack) × (stack_reads standard_limits text ≡ Err (stacks.TooLarge limit offset))
 StackSaid text (Err NoMemory) = Unit {0}
@@ -99,7 +95,7 @@ pub record ReadsFormula (result : Result Held Refusal) (old new : Port) : Type 0
   pub only : OnlyReads old new
 
 pub record IsStackRead (s : HeldStack) (old : Port) : Type 0 where
-  pub says : StackReads old.left (Ok (said_by s))
+  pub says : StackReads old.left (Ok (stack_of s))
   pub within : s.vars ≤ standard_limits.variables
 
 -- pairs, or the cause of the refusal

@@ -7,5 +7,5 @@ pub returns : goal.returns
 returns c =
     let reader = c.self.inside in
     let fed : Fed = record { limits = reader.limits; bytes = reader.collected.bytes; refused = reader.refused } in
-    let answer = rw c.bytes.ensures.bytes at c.parse_stack.ensures in
+    let answer = rw c.bytes.ensures.bytes at c.parse_stack.ensures.answers in
     subst (λ (f : Fed). Finishes f c.parse_stack.result) c.self.view_is (finishes fed c.parse_stack.result c.in_default.not-Some answer)
