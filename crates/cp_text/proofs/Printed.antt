@@ -34,6 +34,9 @@ digits-value : (ds : List ℕ) → all_ascii_digits ds ≡ true → 0 < length d
 digits-value [] h some = absurd (omega arith)
 digits-value (c ∷ cs) h some = digits-read 0 (c ∷ cs) h
 
+pub decimal-all_digits : (n : ℕ) → n < 2 ^ 64 → all_ascii_digits (decimal n) ≡ true
+decimal-all_digits n small = digits_decimal own n small
+
 -- a number that is printed in decimal digits
 pub decimal-digits : (n : ℕ) → n < 2 ^ 64 → digits_value (decimal n) ≡ Some n
 decimal-digits n small = digits-value (decimal n) (digits_decimal own n small) (decimal_nonempty n small) ∙ ap (λ k. let some : Option ℕ = Some k in some) (digits_value-decimal own n small)
