@@ -1,1 +1,5 @@
+pub mod Grammar
+pub mod Held
 pub mod ModelText
+pub mod Reads
+pub mod Steps

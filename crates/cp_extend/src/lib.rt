@@ -3,9 +3,15 @@
 #![tactic(auto)]
 
 mod completion;
+mod parsing;
 mod printing;
+mod progress;
+mod reader;
+mod refusal;
 #[cfg(test)]
 mod tests;
 
 pub use completion::extend;
 pub use printing::print_model;
+pub use reader::{ModelReader, parse_model, reads_within};
+pub use refusal::{ModelKind, ModelRefusal};

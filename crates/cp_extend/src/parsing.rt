@@ -1,0 +1,247 @@
+//! Reading the lines of a model's text.
+
+ghost use Rattle.std.specs.Prelude.{◌≡◌, ◌≢◌, ◌≤◌, ◌<◌, ◌+◌, ◌^◌, ℕ, length, IfOk, option_copied, Ok, Err};
+ghost use Rattle.cp_io.specs.declared.limits.Limits.{Limits};
+ghost use Rattle.cp_text.specs.Cut.{lines_seen};
+ghost use Rattle.cp_extend.specs.Grammar.{document};
+ghost use Rattle.cp_extend.specs.Held.{reading_of};
+ghost use Rattle.cp_extend.specs.Steps.{TakesWord, GoesOn, AnswersWithin, StopsWithin, ReadsLines, SkipsLine, SaysModel, EndsStatus, in_values, in_status};
+
+use crate::progress::Progress;
+use crate::refusal::{ModelKind, ModelRefusal, Stop};
+use cp_io::{Limit, Limits};
+use cp_text::{Item, next_seen, parse_number};
+
+// Where a line ends, and what follows its line feed.
+#[derive(Drop)]
+pub(crate) struct LineStop<'a> {
+    at: u64,
+    rest: Option<&'a [u8]>,
+}
+
+// Takes a word of a value line. True where it is the 0.
+fn take_word(progress: &mut Progress, at: u64, word: &[u8], limits: &Limits) -> Result<bool, Stop>
+    ensures { TakesWord limits.now (reading_of progress.old) (record { at = at; bytes = word.now }) result (reading_of progress.new) }
+{
+    let most = u64::from(limits.variables);
+    let Some(number) = parse_number(word) else {
+        return Err(Stop::bad(at, ModelKind::BadWord));
+    };
+    let Some(size) = number.size else {
+        return Err(too_great(at));
+    };
+    if size == 0 {
+        return Ok(true);
+    }
+    if size > most {
+        return Err(too_great(at));
+    }
+    if progress.give(size as u32, number.positive)? {
+        Ok(false)
+    } else {
+        Err(Stop::bad(at, ModelKind::Contradiction))
+    }
+}
+
+// A variable passes the limit.
+fn too_great(at: u64) -> Stop
+    ensures { result ≡ record { at = at; refusal = ModelRefusal.TooLarge Limit.Variables at } }
+{
+    Stop {
+        at,
+        refusal: ModelRefusal::TooLarge {
+            limit: Limit::Variables,
+            offset: at,
+        },
+    }
+}
+
+// Takes the words of a value line, up to the 0.
+fn take_values<'a>(
+    progress: &mut Progress,
+    text: &'a [u8],
+    place: u64,
+    cut: bool,
+    limits: &Limits,
+) -> Result<Option<LineStop<'a>>, Stop>
+    requires { place + length text.now < 2 ^ 64 }
+    ensures takes { GoesOn limits.now cut (in_values limits.now (reading_of progress.old) (lines_seen cut place text.now)) result (reading_of progress.new) }
+    ensures within { IfOk result (AnswersWithin place text.now) }
+{
+    let mut rest = text;
+    let mut from = place;
+    'words: loop {
+        match next_seen(rest, from, cut) {
+            Item::Word {
+                at,
+                word,
+                rest: after,
+            } => {
+                if take_word(progress, at, word, limits)? {
+                    return Ok(None);
+                }
+                from = at + word.len() as u64;
+                rest = after;
+            }
+            Item::LineEnd { at, rest: after } => {
+                return Ok(Some(LineStop {
+                    at,
+                    rest: Some(after),
+                }));
+            }
+            Item::End { at } => {
+                return Ok(Some(LineStop { at, rest: None }));
+            }
+        }
+    }
+}
+
+// Passes over the words of a line.
+fn skip_line(text: &[u8], place: u64, cut: bool) -> LineStop<'_>
+    requires { place + length text.now < 2 ^ 64 }
+    ensures skips { SkipsLine cut (lines_seen cut place text.now) result }
+    ensures within { StopsWithin place text.now result.at (option_copied result.rest) }
+{
+    let mut rest = text;
+    let mut from = place;
+    'words: loop {
+        match next_seen(rest, from, cut) {
+            Item::Word {
+                at,
+                word,
+                rest: after,
+            } => {
+                from = at + word.len() as u64;
+                rest = after;
+            }
+            Item::LineEnd { at, rest: after } => {
+                return LineStop {
+                    at,
+                    rest: Some(after),
+                };
+            }
+            Item::End { at } => {
+                return LineStop { at, rest: None };
+            }
+        }
+    }
+}
+
+// Whether the word of a status line says that there is a model.
+fn says_model(at: u64, word: &[u8]) -> Result<bool, Stop>
+    ensures { SaysModel (record { at = at; bytes = word.now }) result }
+{
+    if word == b"SATISFIABLE".as_slice() {
+        Ok(true)
+    } else if word == b"UNSATISFIABLE".as_slice() || word == b"UNKNOWN".as_slice() {
+        Ok(false)
+    } else {
+        Err(Stop::bad(at, ModelKind::BadStatus))
+    }
+}
+
+// The end of a status line, of which no word is left.
+fn end_status(text: &[u8], place: u64, cut: bool) -> Result<LineStop<'_>, Stop>
+    requires { place + length text.now < 2 ^ 64 }
+    ensures ends { EndsStatus cut (lines_seen cut place text.now) result }
+    ensures within { IfOk result (λ stop. StopsWithin place text.now stop.at (option_copied stop.rest)) }
+{
+    match next_seen(text, place, cut) {
+        Item::Word { at, .. } => Err(Stop::bad(at, ModelKind::BadStatus)),
+        Item::LineEnd { at, rest } => Ok(LineStop {
+            at,
+            rest: Some(rest),
+        }),
+        Item::End { at } => Ok(LineStop { at, rest: None }),
+    }
+}
+
+// Takes the words of a status line behind its `s`.
+fn take_status<'a>(
+    progress: &mut Progress,
+    text: &'a [u8],
+    place: u64,
+    cut: bool,
+) -> Result<Option<LineStop<'a>>, Stop>
+    requires { place + length text.now < 2 ^ 64 }
+    ensures takes { (limits : Limits) → GoesOn limits cut (in_status limits (reading_of progress.old) (lines_seen cut place text.now)) result (reading_of progress.new) }
+    ensures within { IfOk result (AnswersWithin place text.now) }
+{
+    let (at, word, rest) = match next_seen(text, place, cut) {
+        Item::Word { at, word, rest } => (at, word, rest),
+        Item::LineEnd { at, .. } => return Err(Stop::bad(at, ModelKind::BadStatus)),
+        Item::End { at } => return Err(Stop::bad(at, ModelKind::BadStatus)),
+    };
+    let has_model = says_model(at, word)?;
+    let stop = end_status(rest, at + word.len() as u64, cut)?;
+    if !has_model {
+        return Err(Stop {
+            at: stop.at,
+            refusal: ModelRefusal::NoModel,
+        });
+    }
+    progress.note_status();
+    Ok(Some(stop))
+}
+
+// Takes a line, by its first word.
+fn take_line<'a>(
+    progress: &mut Progress,
+    text: &'a [u8],
+    place: u64,
+    cut: bool,
+    limits: &Limits,
+) -> Result<Option<LineStop<'a>>, Stop>
+    requires { place + length text.now < 2 ^ 64 }
+    ensures takes { (end : ℕ) → GoesOn limits.now cut (document limits.now (reading_of progress.old) end (lines_seen cut place text.now)) result (reading_of progress.new) }
+    ensures within { IfOk result (AnswersWithin place text.now) }
+{
+    let (at, word, rest) = match next_seen(text, place, cut) {
+        Item::Word { at, word, rest } => (at, word, rest),
+        Item::LineEnd { at, rest } => {
+            return Ok(Some(LineStop {
+                at,
+                rest: Some(rest),
+            }));
+        }
+        Item::End { at } => return Ok(Some(LineStop { at, rest: None })),
+    };
+    let behind = at + word.len() as u64;
+    if word[0] == b'c' {
+        return Ok(Some(skip_line(rest, behind, cut)));
+    }
+    if word == b"v".as_slice() {
+        return take_values(progress, rest, behind, cut, limits);
+    }
+    if word == b"s".as_slice() {
+        if progress.has_status() {
+            return Err(Stop::bad(at, ModelKind::BadStatus));
+        }
+        return take_status(progress, rest, behind, cut);
+    }
+    Err(Stop::bad(at, ModelKind::BadWord))
+}
+
+// Takes the lines of a text, up to the 0.
+pub(crate) fn take_lines(
+    progress: &mut Progress,
+    text: &[u8],
+    cut: bool,
+    limits: &Limits,
+) -> Result<(), Stop>
+    requires { length text.now < 2 ^ 64 }
+    ensures { ReadsLines (document limits.now (reading_of progress.old) 0 (lines_seen cut 0 text.now)) result (reading_of progress.new) }
+{
+    let mut rest = text;
+    let mut place = 0;
+    'lines: loop {
+        let Some(stop) = take_line(progress, rest, place, cut, limits)? else {
+            return Ok(());
+        };
+        let Some(after) = stop.rest else {
+            return Err(Stop::bad(stop.at, ModelKind::NoEnd));
+        };
+        place = stop.at + 1;
+        rest = after;
+    }
+}

@@ -1,0 +1,141 @@
+//! Reading the text of a model: the lines that the SAT competitions ask of a solver.
+//!
+//! The bytes are collected, and looked at when all were fed. They are then gone through once. A variable is known by its place in
+//! a table of what was given, which grows to the greatest variable that is named, so that a contradiction is seen at its word.
+//!
+//! MiniSat and CaDiCaL write such lines and read none. The readers that check them take a literal at a time as here.
+
+ghost use Rattle.std.specs.Prelude.{◌≡◌, ◌≢◌, ◌≤◌, [], false, true, length, IfOk};
+ghost use Rattle.cp_extend.specs.declared.refusal.ModelRefusal.TheVariants.{NoMemory};
+ghost use Rattle.cp_extend.specs.Grammar.{told};
+ghost use Rattle.cp_extend.specs.Reads.{AnswersModel, AnswersInto, Feeds, ReadsWithin};
+
+use crate::parsing::take_lines;
+use crate::progress::Progress;
+use crate::refusal::{ModelRefusal, Stop};
+use cp_io::{Feed, Limit, Limits};
+use cp_logic::Assignment;
+use cp_text::{Collected, within};
+use std::alloc::{AllocError, Global};
+use std::marker::Model;
+
+/// The model of the variables 1 to `vars` that a text says, or why it says none. A variable that isn't named is false.
+///
+/// The refusal is that of the first place at which the text is no model, and `NoMemory` only for want of memory.
+pub fn parse_model(
+    alloc: Global,
+    vars: u32,
+    bytes: &[u8],
+    limits: &Limits,
+) -> Result<Assignment, ModelRefusal>
+    requires { vars ≤ 2000000 }
+    ensures { AnswersModel limits.now vars bytes.now result }
+{
+    let mut model = Assignment::new(alloc, vars)?;
+    read_into(alloc, &mut model, bytes, limits)?;
+    Ok(model)
+}
+
+// Gives the variables of the model the values that a text says.
+fn read_into(
+    alloc: Global,
+    model: &mut Assignment,
+    bytes: &[u8],
+    limits: &Limits,
+) -> Result<(), ModelRefusal>
+    requires { length model.old ≤ 2000000 }
+    ensures { AnswersInto limits.now bytes.now model.old result model.new }
+{
+    let seen = within(bytes, limits.bytes);
+    let mut progress = Progress::new(alloc);
+    if let Err(stop) = take_lines(&mut progress, seen.text, seen.cut, limits) {
+        return Err(refusal_of(stop, seen.past, limits.bytes));
+    }
+    progress.fill(model);
+    Ok(())
+}
+
+// What is told of a stop, where the text may be longer than the limit.
+fn refusal_of(stop: Stop, past: bool, limit: u64) -> ModelRefusal
+    ensures memory { stop.refusal ≡ NoMemory → result ≡ NoMemory }
+    ensures told { stop.refusal ≢ NoMemory → result ≡ told past limit stop }
+{
+    if past && stop.at >= limit && stop.refusal != ModelRefusal::NoMemory {
+        ModelRefusal::TooLarge {
+            limit: Limit::Bytes,
+            offset: limit,
+        }
+    } else {
+        stop.refusal
+    }
+}
+
+/// A reader of the text of a model, which is fed in pieces of any lengths. What it answers doesn't depend on the pieces.
+#[derive(Drop)]
+pub struct ModelReader {
+    alloc: Global,
+    limits: Limits,
+    model: Assignment,
+    bytes: Collected,
+    refused: bool,
+}
+
+impl Model for ModelReader {
+    ghost use Rattle.std.specs.Prelude.{length, ◌≡◌, ◌≤◌};
+    ghost use Rattle.cp_extend.specs.Reads.{Reader};
+
+    ghost Value = { Reader };
+
+    ghost view = { λ r. record { limits = r.limits; variables = length r.model; bytes = r.bytes.bytes; refused = r.refused } };
+
+    ghost invariant = { λ r. (r.bytes.limit ≡ r.limits.bytes) × (length r.model ≤ 2000000) };
+}
+
+impl ModelReader {
+    /// A reader of a model of the variables 1 to `vars`. It is refused only for want of memory.
+    pub fn new(alloc: Global, vars: u32, limits: Limits) -> Result<ModelReader, AllocError>
+        requires { vars ≤ 2000000 }
+        ensures { IfOk result (λ reader. reader ≡ record { limits = limits; variables = vars; bytes = []; refused = false }) }
+    {
+        Ok(ModelReader {
+            alloc,
+            limits,
+            model: Assignment::new(alloc, vars)?,
+            bytes: Collected::new(alloc, limits.bytes),
+            refused: false,
+        })
+    }
+
+    /// Takes the next piece of the text. It is refused only for want of memory, and each call behind that too.
+    pub fn feed(&mut self, bytes: &[u8]) -> Result<Feed, ModelRefusal>
+        ensures { Feeds self.old bytes.now result self.new }
+    {
+        if self.refused {
+            return Err(ModelRefusal::NoMemory);
+        }
+        if self.bytes.take(bytes).is_err() {
+            self.refused = true;
+            return Err(ModelRefusal::NoMemory);
+        }
+        Ok(Feed::More)
+    }
+
+    /// The model that the text says, or why it says none: that of the first place at which the text is no model.
+    pub fn finish(self) -> Result<Assignment, ModelRefusal>
+        ensures refused { self.refused ≡ true → result ≡ Err NoMemory }
+        ensures answers { AnswersModel self.limits self.variables self.bytes result }
+    {
+        if self.refused {
+            return Err(ModelRefusal::NoMemory);
+        }
+        let mut model = self.model;
+        read_into(self.alloc, &mut model, self.bytes.bytes(), &self.limits)?;
+        Ok(model)
+    }
+}
+
+/// What a text reads as depends on no byte behind the first past the limit: so a reader answers what all the bytes that it was
+/// fed read as. The function does nothing, and its contract is the law.
+pub fn reads_within()
+    ensures { ReadsWithin }
+{}
