@@ -2,6 +2,8 @@ pub mod Answers
 pub mod Completions
 pub mod Lines
 pub mod Pieces
+pub mod PrintedLines
+pub mod PrintedReads
 pub mod ReadingRows
 pub mod Rows
 pub mod Steps
