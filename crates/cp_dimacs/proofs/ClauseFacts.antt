@@ -9,7 +9,7 @@ use Rattle.cp_logic.specs.Clauses.{clause_of}
 use Rattle.cp_logic.specs.Formulas.{IsWithin}
 use Rattle.cp_logic.proofs.Members.{all_at, all_from}
 use Rattle.cp_logic.proofs.SetFacts.{of_clause_of}
-use Rattle.cp_dimacs.specs.Plain.{greatest_of}
+use Rattle.cp_dimacs.specs.Written.{greatest_of}
 
 -- one more element passes
 pub all_more : {X : Type 0} (p : X → Rattle.std.proofs.Common.Bool) (xs : List X) (i : ℕ) (d : X) → i < length xs → list_all p (take i xs) ≡ true → p (get_or xs i d) ≡ true → list_all p (take (i + 1) xs) ≡ true

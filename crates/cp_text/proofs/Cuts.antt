@@ -15,18 +15,18 @@ take_pieces zero xs ys = refl
 take_pieces (suc n) [] ys = refl
 take_pieces (suc n) (x ∷ xs) ys = ap (λ zs. x ∷ zs) (take_pieces n xs ys)
 
-take_within : {A : Type 0} (n : ℕ) (xs : List A) → take n (take (suc n) xs) ≡ take n xs
+pub take_within : {A : Type 0} (n : ℕ) (xs : List A) → take n (take (suc n) xs) ≡ take n xs
 take_within zero xs = refl
 take_within (suc n) [] = refl
 take_within (suc n) (x ∷ xs) = ap (λ zs. x ∷ zs) (take_within n xs)
 
-goes_on-within : (n : ℕ) (xs : List ℕ) → goes_on (drop n (take (suc n) xs)) ≡ goes_on (drop n xs)
+pub goes_on-within : (n : ℕ) (xs : List ℕ) → goes_on (drop n (take (suc n) xs)) ≡ goes_on (drop n xs)
 goes_on-within zero [] = refl
 goes_on-within zero (x ∷ xs) = refl
 goes_on-within (suc n) [] = refl
 goes_on-within (suc n) (x ∷ xs) = goes_on-within n xs
 
-longer-within : (n : ℕ) (xs : List ℕ) → ltb n (length (take (suc n) xs)) ≡ ltb n (length xs)
+pub longer-within : (n : ℕ) (xs : List ℕ) → ltb n (length (take (suc n) xs)) ≡ ltb n (length xs)
 longer-within zero [] = refl
 longer-within zero (x ∷ xs) = grind (arith, nat_tests)
 longer-within (suc n) [] = refl

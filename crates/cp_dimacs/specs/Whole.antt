@@ -1,0 +1,43 @@
+-- What comes next in a text whose last word may be cut.
+use Rattle.std.specs.Prelude.{◌≡◌, ℕ, ◌+◌, ◌<◌, ◌≤◌, List, [], ◌∷◌, length, Bool, Option, Some, None}
+use Rattle.cp_text.specs.declared.text.Item.{Item}
+use Rattle.cp_text.specs.declared.text.Item.TheVariants as items
+use Rattle.cp_text.specs.Text.{Word as TextWord, Line, lines_from}
+use Rattle.cp_text.specs.Items.{with_word}
+use Rattle.cp_dimacs.specs.Grammar.{whole_words}
+
+-- a word that is looked at stands in front of a text that ends at a place, and the rest begins where it ends
+pub record IsWordAhead (cut : Bool) (place : ℕ) (text : List ℕ) (w : TextWord) (rest : List ℕ) : Type 0 where
+  pub lines : lines_from place text ≡ with_word w (lines_from (w.at + length w.bytes) rest)
+  pub whole : (words : List TextWord) → whole_words cut (place + length text) (w ∷ words) ≡ w ∷ whole_words cut (place + length text) words
+  pub some : 0 < length w.bytes
+  pub later : place ≤ w.at
+  pub reaches : w.at + length w.bytes + length rest ≡ place + length text
+
+-- a line without words that are looked at stands in front
+pub record IsLineAhead (cut : Bool) (place : ℕ) (text : List ℕ) (at : ℕ) (behind : List Line) : Type 0 where
+  pub line : Line
+  pub is : lines_from place text ≡ line ∷ behind
+  pub none : whole_words cut (place + length text) line.words ≡ []
+  pub end : line.end ≡ at
+
+abbrev pub IsNextWhole : Bool → ℕ → List ℕ → Item → Type 0
+IsNextWhole cut place text (items.Word at word rest) = IsWordAhead cut place text (record { at = at; bytes = word.now }) rest.now
+IsNextWhole cut place text (items.LineEnd at rest) = IsLineAhead cut place text at (lines_from (at + 1) rest.now) × (place ≤ at) × (at + 1 + length rest.now ≡ place + length text)
+IsNextWhole cut place text (items.End at) = IsLineAhead cut place text at [] × (at ≡ place + length text)
+
+-- the lines behind a line that ends at a place
+abbrev pub lines_behind : ℕ → Option (List ℕ) → List Line
+lines_behind at None = []
+lines_behind at (Some rest) = lines_from (at + 1) rest
+
+-- Where a line stops, the text ends or the rest of it follows the line feed.
+abbrev pub StopsWithin : ℕ → List ℕ → ℕ → Option (List ℕ) → Type 0
+StopsWithin place text at None = at ≡ place + length text
+StopsWithin place text at (Some rest) = (place ≤ at) × (at + 1 + length rest ≡ place + length text)
+
+-- A line in front was passed over.
+pub record SkipsLine (lines : List Line) (end : ℕ) (behind : List Line) : Type 0 where
+  pub line : Line
+  pub is : lines ≡ line ∷ behind
+  pub ends : line.end ≡ end

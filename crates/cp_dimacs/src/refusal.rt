@@ -1,0 +1,51 @@
+//! Why an input isn't read.
+
+ghost use Rattle.std.specs.Prelude.{◌≡◌};
+ghost use Rattle.cp_dimacs.specs.declared.refusal.CnfRefusal.TheVariants.{NoMemory};
+
+use cp_io::Limit;
+use std::alloc::{AllocError, AllocFailed};
+use thiserror::Error;
+
+/// What is wrong with an input.
+#[derive(Clone, Copy, Debug, PartialEq, Eq)]
+pub enum InputKind {
+    /// The first line with words, other than a comment, doesn't begin with `p`, or there is none.
+    NoHeader,
+    /// A word of the header doesn't fit, is missing or is one too many.
+    BadHeader,
+    /// A word behind the header is no number word.
+    BadWord,
+    /// The input ends within a clause.
+    OpenClause,
+}
+
+/// Why an input isn't read: its first fault, or want of memory. An offset is the number of bytes before the fault.
+#[derive(Clone, Copy, Debug, PartialEq, Eq, Error)]
+pub enum CnfRefusal {
+    /// The input isn't in the format.
+    #[error("bad input at byte {offset}: {kind:?}")]
+    BadInput { offset: u64, kind: InputKind },
+    /// The input passes a limit.
+    #[error("input too large at byte {offset}: {limit:?}")]
+    TooLarge { limit: Limit, offset: u64 },
+    /// There was no memory.
+    #[error("out of memory")]
+    NoMemory,
+}
+
+impl<T: Drop> From<AllocFailed<T>> for CnfRefusal {
+    ghost from_gives = { λ _ e. e ≡ NoMemory };
+
+    fn from(_: AllocFailed<T>) -> CnfRefusal {
+        CnfRefusal::NoMemory
+    }
+}
+
+impl From<AllocError> for CnfRefusal {
+    ghost from_gives = { λ _ e. e ≡ NoMemory };
+
+    fn from(_: AllocError) -> CnfRefusal {
+        CnfRefusal::NoMemory
+    }
+}
