@@ -1,1 +1,6 @@
+pub mod Ahead
+pub mod Fed
+pub mod Grammar
+pub mod Reads
+pub mod Resume
 pub mod Text

@@ -1,0 +1,50 @@
+-- The lines of a text, item by item.
+use Rattle.std.proofs.Common.{◌≡◌, ℕ, ◌+◌, arith, cond, Bool, true, false, List, [], ◌∷◌, length, map, Ok, refl, sym, ◌∙◌, ap}
+use Rattle.std.proofs.lemmas.Bool.{ne_eqb}
+use Rattle.cp_text.specs.Text.{Word, Line}
+use Rattle.cp_text.specs.Cut.{lines_seen, words_before}
+use Rattle.cp_text.specs.Items.{with_word}
+use Rattle.cp_text.proofs.WordFronts.{some_line_from}
+use Rattle.cp_stack.specs.declared.refusal.StackKind.TheVariants.{BadHeader}
+use Rattle.cp_stack.specs.Grammar.{Taken, bad, next_word, from_words, no_word, words_of, end_of}
+
+abbrev pub HasLine : List Line → Type 0
+HasLine lines = (line : Line) × (behind : List Line) × (lines ≡ line ∷ behind)
+
+-- there is always a line
+pub has_line : (cut : Bool) (place : ℕ) (text : List ℕ) → HasLine (lines_seen cut place text)
+has_line false place text = some_line_from place text
+has_line true place text =
+    let some = some_line_from place text in
+    (words_before (place + length text) some.0, map (words_before (place + length text)) some.1, ap (map (words_before (place + length text))) some.2)
+
+pub next_word-word : (w : Word) (lines rest : List Line) → lines ≡ with_word w rest → HasLine rest → Ok (record { word = w; lines = rest }) ≡ next_word lines
+next_word-word w lines rest is some = ap (λ (ls : List Line). let t : Taken = record { word = w; lines = ls } in Ok t) some.2 ∙ sym (ap next_word (is ∙ ap (with_word w) some.2))
+
+pub from_words-empty : (at : ℕ) (lines rest : List Line) → lines ≡ record { words = []; end = at } ∷ rest → HasLine rest → from_words lines ≡ from_words rest
+from_words-empty at lines rest is some =
+    ap from_words (is ∙ ap (λ (ls : List Line). let line : Line = record { words = []; end = at } in line ∷ ls) some.2) ∙ ap from_words (sym some.2)
+
+pub from_words-word : (w : Word) (lines rest : List Line) → lines ≡ with_word w rest → HasLine rest → from_words lines ≡ lines
+from_words-word w lines rest is some = let all = is ∙ ap (with_word w) some.2 in ap from_words all ∙ first some.1 ∙ sym all
+  where
+    first : (behind : List Line) → from_words (with_word w (some.0 ∷ behind)) ≡ with_word w (some.0 ∷ behind)
+    first [] = refl
+    first (next ∷ behind) = ap (λ b. cond b (from_words (next ∷ behind)) (with_word w (some.0 ∷ (next ∷ behind)))) (ne_eqb (length (w ∷ some.0.words)) 0 (omega arith))
+
+pub no_word-word : (w : Word) (lines rest : List Line) → lines ≡ with_word w rest → HasLine rest → bad w.at BadHeader ≡ no_word lines
+no_word-word w lines rest is some = sym (ap no_word (is ∙ ap (with_word w) some.2))
+
+pub words_of-word : (w : Word) (lines rest : List Line) → lines ≡ with_word w rest → HasLine rest → words_of lines ≡ w ∷ words_of rest
+words_of-word w lines rest is some = ap words_of (is ∙ ap (with_word w) some.2) ∙ ap (λ (ls : List Line). w ∷ words_of ls) (sym some.2)
+
+pub end_of-word : (w : Word) (lines rest : List Line) → lines ≡ with_word w rest → HasLine rest → end_of lines ≡ end_of rest
+end_of-word w lines rest is some = ap end_of (is ∙ ap (with_word w) some.2) ∙ first some.1 ∙ ap end_of (sym some.2)
+  where
+    first : (behind : List Line) → end_of (with_word w (some.0 ∷ behind)) ≡ end_of (some.0 ∷ behind)
+    first [] = refl
+    first (next ∷ behind) = refl
+
+pub end_of-empty : (at : ℕ) (lines rest : List Line) → lines ≡ record { words = []; end = at } ∷ rest → HasLine rest → end_of lines ≡ end_of rest
+end_of-empty at lines rest is some =
+    ap end_of (is ∙ ap (λ (ls : List Line). let line : Line = record { words = []; end = at } in line ∷ ls) some.2) ∙ ap end_of (sym some.2)
