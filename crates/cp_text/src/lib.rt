@@ -9,6 +9,8 @@ mod collected;
 mod cut;
 pub mod laws;
 mod numbers;
+#[cfg(test)]
+mod tests;
 mod text;
 
 pub use collected::Collected;
