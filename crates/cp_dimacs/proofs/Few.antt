@@ -14,7 +14,8 @@ use Rattle.cp_dimacs.specs.declared.refusal.CnfRefusal.{CnfRefusal}
 use Rattle.cp_dimacs.specs.declared.refusal.CnfRefusal.TheVariants.{BadInput, TooLarge}
 use Rattle.cp_dimacs.specs.declared.refusal.InputKind.TheVariants.{OpenClause}
 use Rattle.cp_dimacs.specs.Written.{formula_of}
-use Rattle.cp_dimacs.specs.Grammar.{◌>>=◌, number_at, code_of, is_comment, whole_words, header, body, clauses_from, clauses_in, document, stands_before, judged, reads}
+use Rattle.cp_text.specs.Cut.{whole_words}
+use Rattle.cp_dimacs.specs.Grammar.{◌>>=◌, number_at, code_of, is_comment, header, body, clauses_from, clauses_in, document, stands_before, judged, reads}
 
 -- ---- the bytes
 

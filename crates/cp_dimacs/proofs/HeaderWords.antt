@@ -13,8 +13,10 @@ use Rattle.std.specs.Str.{bytes_eq}
 use Rattle.std.proofs.lemmas.Bool.{lt-ltb}
 use Rattle.cp_io.specs.declared.limits.Limits.{Limits}
 use Rattle.cp_io.specs.declared.limits.Limit.TheVariants.{Variables}
-use Rattle.cp_dimacs.specs.Grammar.{whole_words, count_in, header, header_format, header_variables, header_count}
-use Rattle.cp_dimacs.specs.Whole.{IsWordAhead, IsLineAhead, StopsWithin}
+use Rattle.cp_text.specs.Cut.{whole_words}
+use Rattle.cp_dimacs.specs.Grammar.{count_in, header, header_format, header_variables, header_count}
+use Rattle.cp_text.specs.Ahead.{IsWordAhead, IsLineAhead}
+use Rattle.cp_dimacs.specs.Stops.{StopsWithin}
 use Rattle.cp_dimacs.specs.Headers.{LacksWord, SaysLine, FailsLine, AnswersHeader}
 
 -- ---- a line without further words

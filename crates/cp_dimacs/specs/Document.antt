@@ -11,7 +11,7 @@ use Rattle.cp_dimacs.specs.declared.refusal.CnfRefusal.TheVariants.{NoMemory}
 use Rattle.cp_dimacs.specs.Written.{formula_of}
 use Rattle.cp_logic.specs.Slots.{Held}
 use Rattle.cp_dimacs.specs.Grammar.{◌>>=◌, clauses_in, document, judged}
-use Rattle.cp_dimacs.specs.Whole.{lines_behind, StopsWithin}
+use Rattle.cp_dimacs.specs.Stops.{lines_behind, StopsWithin}
 
 -- the document of a header that names so many variables and of the lines behind it
 abbrev pub document_of : Limits → Bool → ℕ → ℕ → List Line → Result (Formula × Bool) CnfRefusal

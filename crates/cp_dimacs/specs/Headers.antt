@@ -7,8 +7,10 @@ use Rattle.cp_dimacs.specs.declared.lines.Header.{Header}
 use Rattle.cp_dimacs.specs.declared.refusal.InputKind.TheVariants.{BadHeader}
 use Rattle.cp_dimacs.specs.declared.refusal.CnfRefusal.{CnfRefusal}
 use Rattle.cp_dimacs.specs.declared.refusal.CnfRefusal.TheVariants.{BadInput}
-use Rattle.cp_dimacs.specs.Grammar.{whole_words, count_in}
-use Rattle.cp_dimacs.specs.Whole.{IsWordAhead, IsLineAhead, lines_behind, StopsWithin}
+use Rattle.cp_text.specs.Cut.{whole_words}
+use Rattle.cp_dimacs.specs.Grammar.{count_in}
+use Rattle.cp_text.specs.Ahead.{IsWordAhead, IsLineAhead}
+use Rattle.cp_dimacs.specs.Stops.{lines_behind, StopsWithin}
 
 -- no word is left in the line in front
 pub record LacksWord (cut : Bool) (place : ℕ) (text : List ℕ) (refusal : CnfRefusal) : Type 0 where

@@ -3,14 +3,14 @@
 ghost use Rattle.std.specs.Prelude.{◌≡◌, ◌<◌, ◌+◌, ◌^◌, length, option_copied, IfOk};
 ghost use Rattle.cp_io.specs.Limits.{IsWithinStandard};
 ghost use Rattle.cp_text.specs.Text.{lines_from};
-ghost use Rattle.cp_dimacs.specs.Whole.{StopsWithin};
+ghost use Rattle.cp_dimacs.specs.Stops.{StopsWithin};
 ghost use Rattle.cp_dimacs.specs.Lines.{TakesLine, TakesAnyLine, AnswersWithin, TakesBody};
 
 use crate::clauses::{Reading, close, take_word};
-use crate::lines::{LineStop, next_whole, skip_line};
+use crate::lines::{LineStop, skip_line};
 use crate::refusal::CnfRefusal;
 use cp_io::Limits;
-use cp_text::{Item, next_item};
+use cp_text::{Item, next_item, next_whole};
 use std::alloc::Global;
 
 /// Takes the words of a line.

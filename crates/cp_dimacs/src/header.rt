@@ -7,10 +7,10 @@ ghost use Rattle.cp_dimacs.specs.declared.refusal.InputKind.TheVariants.{BadHead
 ghost use Rattle.cp_dimacs.specs.declared.refusal.CnfRefusal.TheVariants.{BadInput};
 ghost use Rattle.cp_dimacs.specs.Headers.{word_of, IsHeaderWord, IsCount, AnswersHeader};
 
-use crate::lines::{Header, LineStop, next_whole};
+use crate::lines::{Header, LineStop};
 use crate::refusal::{CnfRefusal, InputKind};
 use cp_io::{Limit, Limits};
-use cp_text::{Item, parse_number};
+use cp_text::{Item, next_whole, parse_number};
 
 /// A word of a line, where it ends, and what follows it.
 #[derive(Drop)]

@@ -1,8 +1,8 @@
-//! Going through a text whose last word may be cut.
+//! Where the lines of a text stop.
 
 ghost use Rattle.std.specs.Prelude.{◌≡◌, ◌<◌, ◌≤◌, ◌+◌, ◌^◌, length, option_copied};
 ghost use Rattle.cp_text.specs.Text.{lines_from};
-ghost use Rattle.cp_dimacs.specs.Whole.{IsNextWhole, SkipsLine, StopsWithin, lines_behind};
+ghost use Rattle.cp_dimacs.specs.Stops.{SkipsLine, StopsWithin, lines_behind};
 
 use cp_text::{Item, next_item};
 
@@ -19,22 +19,6 @@ pub(crate) struct Header<'a> {
     pub variables: u32,
     pub stop: LineStop<'a>,
     ghost most: { variables ≤ 2000000 },
-}
-
-/// The next item of a text that begins at a place, where a last word that is cut isn't looked at.
-pub(crate) fn next_whole(text: &[u8], place: u64, cut: bool) -> Item<'_>
-    requires { place + length text.now < 2 ^ 64 }
-    ensures { IsNextWhole cut place text.now result }
-{
-    let item = next_item(text, place);
-    if let Item::Word { rest, .. } = &item {
-        if cut && rest.is_empty() {
-            return Item::End {
-                at: place + text.len() as u64,
-            };
-        }
-    }
-    item
 }
 
 /// Passes over a line.

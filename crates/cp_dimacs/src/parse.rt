@@ -14,11 +14,11 @@ ghost use Rattle.cp_dimacs.specs.Reads.{AnswersCnf, IsRead};
 use crate::body::take_body;
 use crate::clauses::Reading;
 use crate::header::read_header;
-use crate::lines::{Header, next_whole, skip_line};
+use crate::lines::{Header, skip_line};
 use crate::refusal::{CnfRefusal, InputKind};
 use cp_io::{Limit, Limits};
 use cp_logic::Formula;
-use cp_text::{Item, within};
+use cp_text::{Item, next_whole, within};
 use std::alloc::Global;
 
 /// A formula, and whether a line ended the input.

@@ -3,6 +3,8 @@ pub mod Completions
 pub mod Lengths
 pub mod Lines
 pub mod Pieces
+pub mod PrintedLines
+pub mod PrintedReads
 pub mod ReadingRows
 pub mod Rows
 pub mod Steps

@@ -1,5 +1,5 @@
 -- Worked examples of what a text reads as, of three variables.
-use Rattle.std.proofs.Common.{◌≡◌, ℕ, true, false, List, [], ◌∷◌, Ok, Err, refl}
+use Rattle.std.proofs.Common.{◌≡◌, ℕ, true, false, [], ◌∷◌, Ok, Err, refl}
 use Rattle.std.specs.Prelude.{codes}
 use Rattle.cp_io.specs.Limits.{standard_limits}
 use Rattle.cp_io.specs.declared.limits.Limits.{Limits}

@@ -38,6 +38,7 @@ nothing_given x = None
 abbrev pub with_literal : Given → NumberWord → Given
 with_literal given literal x = if x == literal.size then Some literal.positive else given x
 
+-- whether this value was given
 abbrev pub is_value : Bool → Option Bool → Bool
 is_value value None = false
 is_value value (Some other) = if value then other else not other
@@ -66,6 +67,7 @@ with_status r = record r { status = true }
 abbrev pub with_given : Reading → NumberWord → Reading
 with_given r literal = record r { given = with_literal r.given literal }
 
+-- the number that a word says, or that the word is bad
 abbrev pub number_at : Word → Result NumberWord Stop
 number_at w = found (number_of w.bytes)
   where
@@ -82,6 +84,7 @@ value_words limits r (w ∷ words) = number_at w >>= λ n.
     else if contradicts r.given n then bad w.at Contradiction
     else value_words limits (with_given r n) words
 
+-- the answer, where no word is one too many
 abbrev pub no_more : {A : Type 0} → List Word → Result A Stop → Result A Stop
 no_more [] answer = answer
 no_more (w ∷ words) answer = bad w.at BadStatus

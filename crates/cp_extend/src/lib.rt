@@ -1,12 +1,15 @@
-//! Models of the formula that was read. `extend` completes a model of the formula that is left by the pairs of the run, and
-//! `print_model` writes a model to the role Full of a desk.
+//! Models of the formula that was read. A `ModelReader` reads the model of the formula that is left, `extend` completes it by the
+//! pairs of the run, and `print_model` writes a model to the role Full of a desk. What a text reads as is `specs/Grammar`.
 #![tactic(auto)]
 
 mod completion;
+pub mod laws;
 mod parsing;
 mod printing;
 mod progress;
 mod reader;
+#[cfg(test)]
+mod reading_tests;
 mod refusal;
 #[cfg(test)]
 mod tests;

@@ -1,4 +1,5 @@
-//! Reading the lines of a model's text.
+//! Reading the lines of a model's text. Each step is a law over what is left: what the rest reads as behind what was read is what
+//! it reads as behind what is read now.
 
 ghost use Rattle.std.specs.Prelude.{◌≡◌, ◌≢◌, ◌≤◌, ◌<◌, ◌+◌, ◌^◌, ℕ, length, IfOk, option_copied, Ok, Err};
 ghost use Rattle.cp_io.specs.declared.limits.Limits.{Limits};

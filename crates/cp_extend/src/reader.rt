@@ -3,7 +3,8 @@
 //! The bytes are collected, and looked at when all were fed. They are then gone through once. A variable is known by its place in
 //! a table of what was given, which grows to the greatest variable that is named, so that a contradiction is seen at its word.
 //!
-//! MiniSat and CaDiCaL write such lines and read none. The readers that check them take a literal at a time as here.
+//! CaDiCaL reads such a text as a solution to be checked (`parse.cpp`). There the status line comes first, and a variable that is
+//! named twice is a fault; here the status line may come anywhere or be missing, and only both literals of one variable are a fault.
 
 ghost use Rattle.std.specs.Prelude.{◌≡◌, ◌≢◌, ◌≤◌, [], false, true, length, IfOk};
 ghost use Rattle.cp_extend.specs.declared.refusal.ModelRefusal.TheVariants.{NoMemory};

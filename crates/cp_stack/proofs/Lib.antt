@@ -1,6 +1,9 @@
+pub mod JournalPairs
 pub mod LinesAhead
 pub mod PairFacts
 pub mod Pieces
+pub mod PrintedLines
+pub mod PrintedReads
 pub mod ReadRows
 pub mod Resumed
 pub mod Rows

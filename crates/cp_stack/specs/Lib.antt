@@ -1,6 +1,7 @@
 pub mod Ahead
 pub mod Fed
 pub mod Grammar
+pub mod Laws
 pub mod Reads
 pub mod Resume
 pub mod Text

@@ -3,11 +3,13 @@
 //!
 //! A layer above may rely on this: `print_stack` writes the text that `specs/Text` defines to the role Stack of a desk,
 //! `parse_stack` answers what bytes read as by `specs/Grammar`, its first fault with its place, and a `StackReader` answers the
-//! same of all bytes that it is fed, however they are cut into pieces. Want of memory alone is free.
+//! same of all bytes that it is fed, however they are cut into pieces. Want of memory alone is free. `laws` says that a
+//! printed stack is read as itself.
 #![tactic(auto)]
 
 mod ahead;
 mod header;
+pub mod laws;
 mod parsing;
 mod printing;
 mod reader;

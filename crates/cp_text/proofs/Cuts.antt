@@ -1,12 +1,10 @@
 -- What is seen of an input that may be longer than its limit.
-use Rattle.std.proofs.Common.{◌≡◌, ℕ, zero, suc, ◌+◌, ◌<◌, ◌≤◌, Bool, true, false, ltb, List, [], ◌∷◌, ◌++◌, length, take, drop, refl, sym, ◌∙◌, ap, arith}
-use Rattle.std.specs.Prelude.{map}
+use Rattle.std.proofs.Common.{◌≡◌, ℕ, zero, suc, ◌+◌, ◌≤◌, Bool, false, ltb, List, [], ◌∷◌, ◌++◌, length, take, drop, refl, sym, ap, arith}
 use Rattle.std.proofs.lemmas.Bool.Decides.{nat_tests}
 use Rattle.std.proofs.Math.Numerals.{add-one}
 use Rattle.std.proofs.lemmas.List.{take_all, drop_all}
-use Rattle.cp_text.specs.Text.{Word as TextWord, lines_from}
-use Rattle.cp_text.specs.Items.{with_word}
-use Rattle.cp_text.specs.Cut.{goes_on, words_before, lines_seen, lines_within}
+use Rattle.cp_text.specs.Text.{lines_from}
+use Rattle.cp_text.specs.Cut.{goes_on, lines_seen, lines_within}
 
 -- ---- bytes
 
@@ -40,32 +38,10 @@ pub sees-all : (limit : ℕ) (input : List ℕ) → length input ≤ limit → l
 unfolding lines_within
 sees-all limit input within = rw (take_all limit input within, drop_all limit input within) refl
 
--- ---- items
-
-before : (a b : ℕ) → a < b → ltb a b ≡ true
-before a b h = grind (arith, nat_tests)
+-- ---- an input
 
 not_before : (a b : ℕ) → b ≤ a → ltb a b ≡ false
 not_before a b h = grind (arith, nat_tests)
-
-seen-last : (end : ℕ) (w : TextWord) → end ≤ w.at + length w.bytes → map (words_before end) (with_word w (record { words = []; end = end } ∷ [])) ≡ record { words = []; end = end } ∷ []
-seen-last end w long = rw (not_before (w.at + length w.bytes) end long) refl
-
--- a cut word that ends where its text ends isn't seen
-pub seen_end : (place : ℕ) (text : List ℕ) (at : ℕ) (word : List ℕ) → lines_from place text ≡ with_word (record { at = at; bytes = word }) (lines_from (at + length word) []) → at + length word ≡ place + length text
-    → lines_seen true place text ≡ record { words = []; end = place + length text } ∷ []
-unfolding lines_from
-seen_end place text at word is reaches =
-    let end = place + length text in
-    ap (map (words_before end)) (is ∙ ap (λ e. with_word (record { at = at; bytes = word }) (record { words = []; end = e } ∷ [])) reaches) ∙ seen-last end (record { at = at; bytes = word }) (omega arith)
-
-pub seen_cut : (cut : Bool) (place : ℕ) (text : List ℕ) (at : ℕ) (word rest : List ℕ) → cut ≡ true → length rest ≡ 0 → lines_from place text ≡ with_word (record { at = at; bytes = word }) (lines_from (at + length word) rest)
-    → at + length word + length rest ≡ place + length text → (lines_seen cut place text ≡ record { words = []; end = place + length text } ∷ []) × (place + length text ≡ place + length text)
-seen_cut false place text at word rest is none next reaches = absurd cc
-seen_cut true place text at word (b ∷ rest) is none next reaches = absurd (omega arith)
-seen_cut true place text at word [] is none next reaches = (seen_end place text at word next (omega arith), refl)
-
--- ---- an input
 
 pub seen-whole : (limit : ℕ) (input : List ℕ) → length input ≤ limit → (input ≡ take limit input) × (false ≡ goes_on (drop limit input)) × (false ≡ ltb limit (length input)) × (lines_within limit input ≡ lines_from 0 input)
 seen-whole limit input short =

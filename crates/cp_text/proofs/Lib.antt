@@ -1,2 +1,4 @@
 pub mod Cuts
+pub mod Printed
 pub mod WordFronts
+pub mod Wholes

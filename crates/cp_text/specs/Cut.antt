@@ -2,7 +2,7 @@
 -- that goes on behind it.
 use Rattle.std.specs.Prelude.{◌≡◌, ℕ, ◌+◌, List, [], ◌∷◌, length, take, drop, map, Bool, true, false, not, nat_lt}
 use Rattle.std.specs.List.{filter}
-use Rattle.cp_text.specs.Text.{Line, separates, lines_from}
+use Rattle.cp_text.specs.Text.{Word, Line, separates, lines_from}
 use Rattle.cp_text.specs.declared.cut.Seen.{Seen}
 
 -- whether a word goes on with these bytes
@@ -13,6 +13,11 @@ goes_on (b ∷ bytes) = not (separates b)
 -- the words that end before a place
 abbrev pub words_before : ℕ → Line → Line
 words_before place line = record { words = filter (λ w. nat_lt (w.at + length w.bytes) place) line.words; end = line.end }
+
+-- The words that are looked at. The last word of a text that is cut, if it ends where the text ends, isn't one of them.
+abbrev pub whole_words : Bool → ℕ → List Word → List Word
+whole_words false end words = words
+whole_words true end words = let line = words_before end (record { words = words; end = end }) in line.words
 
 -- the lines without a word that ends where the text ends, if that word is cut
 abbrev pub seen_before : Bool → ℕ → List Line → List Line

@@ -1,3 +1,4 @@
+pub mod Ahead
 pub mod Collected
 pub mod Cut
 pub mod Items

@@ -2,6 +2,7 @@
 
 ghost use Rattle.std.specs.Prelude.{◌≡◌, ◌+◌, ◌<◌, ◌^◌, length};
 ghost use Rattle.cp_text.specs.Items.{IsNextSeen};
+ghost use Rattle.cp_text.specs.Ahead.{IsNextWhole};
 ghost use Rattle.cp_text.specs.Cut.{goes_on, IsSeen};
 
 use crate::text::{Item, is_separator, next_item};
@@ -45,10 +46,11 @@ fn begins_in_word(bytes: &[u8]) -> bool
     }
 }
 
-/// The next item of a text that begins at a place, where a last word that is cut isn't looked at.
-pub fn next_seen(text: &[u8], place: u64, cut: bool) -> Item<'_>
+/// The next item of a text that begins at a place, where a last word that is cut isn't looked at. Its contract tells the lines of
+/// the whole text.
+pub fn next_whole(text: &[u8], place: u64, cut: bool) -> Item<'_>
     requires { place + length text.now < 2 ^ 64 }
-    ensures { IsNextSeen cut place text.now result }
+    ensures { IsNextWhole cut place text.now result }
 {
     let item = next_item(text, place);
     if let Item::Word { rest, .. } = &item {
@@ -59,4 +61,12 @@ pub fn next_seen(text: &[u8], place: u64, cut: bool) -> Item<'_>
         }
     }
     item
+}
+
+/// The same, whose contract tells the lines that are seen.
+pub fn next_seen(text: &[u8], place: u64, cut: bool) -> Item<'_>
+    requires { place + length text.now < 2 ^ 64 }
+    ensures { IsNextSeen cut place text.now result }
+{
+    next_whole(text, place, cut)
 }

@@ -1,7 +1,7 @@
 use Rattle.std.proofs.Common.{◌≡◌, length, refl, arith}
 use Rattle.std.proofs.lemmas.Bool.Decides.{nat_tests}
-use Rattle.cp_dimacs.proofs.Wholes.{cut_ahead}
-use Rattle.cp_dimacs.proofs.lines.next_whole.Goals as goal
+use Rattle.cp_text.proofs.Wholes.{cut_ahead}
+use Rattle.cp_text.proofs.cut.next_whole.Goals as goal
 
 pub returns-then-is_empty : goal.returns-then-is_empty
 returns-then-is_empty c =

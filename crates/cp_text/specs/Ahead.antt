@@ -1,10 +1,10 @@
 -- What comes next in a text whose last word may be cut.
-use Rattle.std.specs.Prelude.{◌≡◌, ℕ, ◌+◌, ◌<◌, ◌≤◌, List, [], ◌∷◌, length, Bool, Option, Some, None}
+use Rattle.std.specs.Prelude.{◌≡◌, ℕ, ◌+◌, ◌<◌, ◌≤◌, List, [], ◌∷◌, length, Bool}
 use Rattle.cp_text.specs.declared.text.Item.{Item}
 use Rattle.cp_text.specs.declared.text.Item.TheVariants as items
 use Rattle.cp_text.specs.Text.{Word as TextWord, Line, lines_from}
 use Rattle.cp_text.specs.Items.{with_word}
-use Rattle.cp_dimacs.specs.Grammar.{whole_words}
+use Rattle.cp_text.specs.Cut.{whole_words}
 
 -- a word that is looked at stands in front of a text that ends at a place, and the rest begins where it ends
 pub record IsWordAhead (cut : Bool) (place : ℕ) (text : List ℕ) (w : TextWord) (rest : List ℕ) : Type 0 where
@@ -25,19 +25,3 @@ abbrev pub IsNextWhole : Bool → ℕ → List ℕ → Item → Type 0
 IsNextWhole cut place text (items.Word at word rest) = IsWordAhead cut place text (record { at = at; bytes = word.now }) rest.now
 IsNextWhole cut place text (items.LineEnd at rest) = IsLineAhead cut place text at (lines_from (at + 1) rest.now) × (place ≤ at) × (at + 1 + length rest.now ≡ place + length text)
 IsNextWhole cut place text (items.End at) = IsLineAhead cut place text at [] × (at ≡ place + length text)
-
--- the lines behind a line that ends at a place
-abbrev pub lines_behind : ℕ → Option (List ℕ) → List Line
-lines_behind at None = []
-lines_behind at (Some rest) = lines_from (at + 1) rest
-
--- Where a line stops, the text ends or the rest of it follows the line feed.
-abbrev pub StopsWithin : ℕ → List ℕ → ℕ → Option (List ℕ) → Type 0
-StopsWithin place text at None = at ≡ place + length text
-StopsWithin place text at (Some rest) = (place ≤ at) × (at + 1 + length rest ≡ place + length text)
-
--- A line in front was passed over.
-pub record SkipsLine (lines : List Line) (end : ℕ) (behind : List Line) : Type 0 where
-  pub line : Line
-  pub is : lines ≡ line ∷ behind
-  pub ends : line.end ≡ end
