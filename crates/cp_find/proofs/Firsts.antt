@@ -68,7 +68,7 @@ struck-cases x clause below above a b e d p q =
     ∙ ap (λ z. cond a (cond b None (Some above)) (cond b (Some z) None)) (sym e)
 
 -- a clause with one literal alone at the variable has the negation of what is struck, and not the struck one
-alone : (x : ℕ) (clause : List ℕ) (l : ℕ) → struck x clause ≡ Some l → (variable_of l ≡ x) × (contains clause (negated l) ≡ true) × (contains clause l ≡ false)
+pub alone : (x : ℕ) (clause : List ℕ) (l : ℕ) → struck x clause ≡ Some l → (variable_of l ≡ x) × (contains clause (negated l) ≡ true) × (contains clause l ≡ false)
 alone x clause l e = go (contains clause (positive x)) (contains clause (negative x)) refl refl e
   where
     inside : (a b : ℕ) → Some a ≡ Some b → a ≡ b

@@ -131,9 +131,7 @@ module _ (wanted found : List ℕ) where
   pass-whole (x ∷ xs) rest e p = ne_eqb (length (x ∷ xs)) 0 (omega arith) ∙ sym (ap (is_subset (x ∷ xs)) e) ∙ p.same
 
   -- a wanted literal and one of the other list, each the first of what is left
-  pub pass-heads : (l i : ℕ) (left rest : List ℕ) (first other wanted_literal : ℕ) → left ≡ first ∷ rest → wanted_literal ≡ turned l first → i < length found → other ≡ get_or found i other
-      → IsPass wanted found (map (turned l) left) (drop i found) → IsPass wanted found (wanted_literal ∷ map (turned l) rest) (other ∷ drop (i + 1) found)
-  pass-heads l i left rest first other wanted_literal e d h o p =
-      IsPass-at (map (turned l) left) (drop i found) (wanted_literal ∷ map (turned l) rest) (other ∷ drop (i + 1) found)
-      (ap (map (turned l)) e ∙ ap (λ z. z ∷ map (turned l) rest) (sym d))
-      (drop_more found i other h ∙ ap (λ z. z ∷ drop (i + 1) found) (sym o)) p
+  pub pass-heads : (i : ℕ) (left rest : List ℕ) (first other : ℕ) → left ≡ first ∷ rest → i < length found → other ≡ get_or found i other
+      → IsPass wanted found left (drop i found) → IsPass wanted found (first ∷ rest) (other ∷ drop (i + 1) found)
+  pass-heads i left rest first other e h o p =
+      IsPass-at left (drop i found) (first ∷ rest) (other ∷ drop (i + 1) found) e (drop_more found i other h ∙ ap (λ z. z ∷ drop (i + 1) found) (sym o)) p

@@ -1,11 +1,8 @@
 -- The first entries of one kind at a variable, and the tests on two clauses that find them.
 use Rattle.std.specs.Prelude.{ℕ, ◌==◌, ◌&&◌, Bool, not, Option, Some, None, List, map, if◌then◌else◌}
-use Rattle.std.specs.List.{find}
 use Rattle.cp_logic.specs.declared.named.Named.{Named}
 use Rattle.cp_logic.specs.Literals.{negated, positive, negative}
 use Rattle.cp_logic.specs.Clauses.{contains, is_subset}
-use Rattle.cp_logic.specs.Entries.{Entry, is_at}
-use Rattle.cp_logic.specs.Legality.{fits}
 
 -- whether the first clause subsumes the second, which is another one
 abbrev pub subsumes : Named → Named → Bool

@@ -1,2 +1,4 @@
+pub mod Buckets
 pub mod Finds
 pub mod Laws
+pub mod Signatures

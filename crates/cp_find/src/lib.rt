@@ -3,17 +3,22 @@
 //!
 //! Each finder gives the least entry of its kind that is legal, by the numbers of the clauses that it names and then the literal,
 //! and None exactly where there is none. Where the cell has all clauses of the variable, that is the least among all clauses, as the
-//! laws say. The search takes no memory: a clause is copied only for the entry that is found.
+//! laws say. A tautology is looked for without memory. The other two first list the cell's clauses with their signatures, and where
+//! they are many sort them into buckets by their literals, so that few pairs of clauses are compared literal by literal.
 #![tactic(auto)]
 
 pub mod laws;
+mod lookup;
 mod pairs;
+mod signatures;
 mod strengthening;
 mod subsumption;
 mod tautology;
 #[cfg(test)]
 mod tests;
+mod wanted;
 
+pub use signatures::signature;
 pub use strengthening::first_strengthened;
 pub use subsumption::first_subsumed;
 pub use tautology::first_taut;

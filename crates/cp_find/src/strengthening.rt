@@ -4,11 +4,11 @@
 //! As in SatELite (Een and Biere, SAT 2005, "Effective Preprocessing in SAT through Variable and Clause Elimination"), MiniSat's
 //! `Clause::subsumes` and CaDiCaL's `subsume.cpp`. The resolvent of the two clauses on the variable is a subset of the first one,
 //! so this is subsumption by a clause with one literal turned to its negation. Hence the test: in `by` the literal of the variable
-//! is turned, and one pass over the two ascending lists tells whether `on` has all of it. A literal and its negation are
-//! neighbours in the order, so the turned list is ascending too, and no list is made for it. A clause with both signs of the
-//! variable strengthens none at it: turned, it would still have the literal that goes. So each clause has at most one literal to
-//! take from others, which is found once, and the pairs are looked at by ascending numbers, so that the answer is the least pair.
-ghost use Rattle.std.specs.Prelude.{◌≡◌, ◌≤◌, ◌^◌, IfOk, IsFalse, map};
+//! is turned, and the clauses that have all of the turned literals are looked for as those that a clause subsumes. A literal and
+//! its negation are neighbours in the order, so the turned list is ascending too. A clause with both signs of the variable
+//! strengthens none at it: turned, it would still have the literal that goes. So each clause has at most one literal to take from
+//! others, which is found once, and the pairs are looked at by ascending numbers, so that the answer is the least pair.
+ghost use Rattle.std.specs.Prelude.{◌≡◌, ◌≤◌, ◌^◌, IfOk, OnOk, map};
 ghost use Rattle.std.specs.List.{find};
 ghost use Rattle.std.specs.Option.{option_map};
 ghost use Rattle.cp_logic.specs.Items.{named_item};
@@ -17,7 +17,9 @@ ghost use Rattle.cp_logic.specs.Legality.{strengthenings, first_of_kind};
 ghost use Rattle.cp_logic.specs.Views.{entry_of};
 ghost use Rattle.cp_find.specs.Finds.{struck, turned, strengthens};
 
+use crate::lookup::Lookup;
 use crate::pairs::named;
+use crate::wanted::Wanted;
 use cp_logic::{Clause, Entry, Lit, Named};
 use cp_occ::Cell;
 use std::alloc::{AllocError, Global};
@@ -25,7 +27,7 @@ use std::alloc::{AllocError, Global};
 /// The first pair of clauses of the cell of which one takes a literal of the cell's variable from the other, by the number of the
 /// one that takes it and then by that of the other, or `None` where there is no such pair. The new clause gets the number `next`.
 ///
-/// The error comes only for want of memory for the new clause.
+/// The error comes only for want of memory.
 pub fn first_strengthened(
     alloc: Global,
     cell: &Cell,
@@ -35,10 +37,14 @@ pub fn first_strengthened(
     ensures { IfOk result (λ o. option_map entry_of o ≡ first_of_kind cell.now.variable cell.now.clauses (strengthenings cell.now.clauses next)) }
 {
     let var = cell.var();
+    let lookup = Lookup::of_cell(alloc, cell)?;
+    let mut wanted = Vec::new(alloc);
     for (number, by) in cell.iter() {
-        if let Some(lit) = struck(by, var)
-            && let Some((other, on)) = first_on(cell, number, by, lit)
-        {
+        let Some(lit) = struck(by, var) else {
+            continue;
+        };
+        fill_turned(&mut wanted, by.lits(), lit)?;
+        if let Some((other, on)) = lookup.first(&Wanted::new(number, wanted.as_slice())) {
             let by = named(number, by)?;
             let new = Named {
                 number: next,
@@ -71,44 +77,15 @@ fn struck(by: &Clause, var: u32) -> Option<Lit>
     None
 }
 
-// The first clause of the cell from which the numbered clause takes the literal.
-fn first_on<'a>(cell: &'a Cell, number: u64, by: &Clause, lit: Lit) -> Option<(u64, &'a Clause)>
-    requires { IsFalse (contains by.now lit) }
-    ensures { option_map named_item result ≡ find (strengthens lit (record { number = number; clause = by.now })) cell.now.clauses }
+// Makes the list that of the literals, with the one given in place of its negation.
+fn fill_turned(list: &mut Vec<Lit>, lits: &[Lit], lit: Lit) -> Result<(), AllocError>
+    ensures { OnOk result (list.new.items ≡ map (turned lit) lits.now) }
 {
-    let lits = by.lits();
-    for (other, on) in cell.iter() {
-        if number != other && is_within_turned(lits, on.lits(), lit) {
-            return Some((other, on));
-        }
+    list.clear();
+    for other in lits {
+        list.push(turned(*other, lit))?;
     }
-    None
-}
-
-// Whether each literal of the first list, with the one given in place of its negation, is in the second list. One pass over both.
-fn is_within_turned(by: &[Lit], on: &[Lit], lit: Lit) -> bool
-    requires ascending { IsAscending by.now }
-    requires alone { IsFalse (contains by.now lit) }
-    requires on_ascending { IsAscending on.now }
-    ensures { result ≡ is_subset (map (turned lit) by.now) on.now }
-{
-    if on.len() < by.len() {
-        return false;
-    }
-    let mut left = by;
-    for other in on {
-        let Some((first, rest)) = left.split_first() else {
-            return true;
-        };
-        let wanted = turned(*first, lit);
-        if wanted.code() < other.code() {
-            return false;
-        }
-        if wanted == *other {
-            left = rest;
-        }
-    }
-    left.is_empty()
+    Ok(())
 }
 
 // The first literal, and the second in place of its negation.

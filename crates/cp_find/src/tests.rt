@@ -2,7 +2,7 @@
 ghost use Rattle.std.specs.Prelude.{◌≡◌};
 ghost use Rattle.cp_logic.specs.Clauses.{has_variable};
 
-use crate::{first_strengthened, first_subsumed, first_taut};
+use crate::{first_strengthened, first_subsumed, first_taut, signature};
 use cp_logic::{Clause, Entry, Lit, Named};
 use cp_occ::{Cell, Place};
 use std::alloc::{AllocError, Global};
@@ -67,6 +67,111 @@ fn strengthened_clauses(rt: HostRuntime) -> Result<(), Fail> {
         assert_eq!(rt; text_of(rt.alloc(), found)?.as_str(), expected);
     }
     Ok(())
+}
+
+#[test]
+fn signatures_of_subsets(rt: HostRuntime) -> Result<(), Fail> {
+    let rows: [(&[i32], &[i32], bool); 4] = [
+        (&[], &[1], true),
+        (&[2], &[-1, 2, 3], true),
+        (&[-1, 3], &[-1, 2, 3], true),
+        (&[1], &[-1, 2, 3], false),
+    ];
+    for (literals, others, expected) in rows {
+        let clause = clause_of(rt.alloc(), literals)?;
+        let other = clause_of(rt.alloc(), others)?;
+        let bits = signature(clause.lits());
+        assert_eq!(rt; bits & signature(other.lits()) == bits, expected);
+    }
+    Ok(())
+}
+
+// Cells of 40 to 118 clauses, so short and long ones, of few and of many variables.
+#[test]
+fn the_plain_search_finds_the_same(rt: HostRuntime) -> Result<(), Fail> {
+    for row in 0..40 {
+        let cell = mixed_cell(rt.alloc(), row, 40 + 2 * row, 6 + row)?;
+        let subsumed = numbers_of(first_subsumed(rt.alloc(), &cell, 4)?);
+        assert_eq!(rt; subsumed, plain_subsumed(&cell));
+        let strengthened = numbers_of(first_strengthened(rt.alloc(), &cell, 4)?);
+        let plain = plain_strengthened(rt.alloc(), &cell)?;
+        assert_eq!(rt; strengthened, plain);
+    }
+    Ok(())
+}
+
+// The cell of the variable 1, of so many clauses of three to five literals, drawn from so many variables.
+fn mixed_cell(alloc: Global, seed: u32, clauses: u32, vars: u32) -> Result<Cell, AllocError> {
+    let mut cell = Cell::new(alloc, 1);
+    let mut state = seed;
+    for i in 0..clauses {
+        let mut lits = Vec::new(alloc);
+        state = drawn(state);
+        lits.push(Lit::new(1, state & 1024 == 0))?;
+        for _k in 0..2 + i % 3 {
+            state = drawn(state);
+            let var = 2 + state / 65_536 % vars.max(1).min(1000);
+            lits.push(Lit::new(var, state & 1024 == 0))?;
+        }
+        let clause = Clause::from_lits(alloc, lits.as_slice())?;
+        if has_one(&clause) {
+            let place = Place::new(alloc, clause)?;
+            cell.reserve(1)?;
+            cell.insert(u64::from(i) + 1, place);
+        }
+    }
+    Ok(cell)
+}
+
+// The next number of a sequence that looks random.
+fn drawn(state: u32) -> u32 {
+    state.wrapping_mul(1_664_525).wrapping_add(1_013_904_223)
+}
+
+// The numbers of the two clauses of a pair.
+fn numbers_of(found: Option<Entry>) -> Option<(u64, u64)> {
+    match found {
+        Some(Entry::Subsume { by, gone }) => Some((by.number, gone.number)),
+        Some(Entry::Strengthen { by, on, .. }) => Some((by.number, on.number)),
+        _ => None,
+    }
+}
+
+// The first pair of clauses of which one is a subset of the other, by comparing all.
+fn plain_subsumed(cell: &Cell) -> Option<(u64, u64)> {
+    for (number, by) in cell.iter() {
+        for (other, gone) in cell.iter() {
+            if number != other && by.subset_of(gone) {
+                return Some((number, other));
+            }
+        }
+    }
+    None
+}
+
+// The first pair of clauses of which one takes a literal of the variable 1 from the other, by comparing all.
+fn plain_strengthened(alloc: Global, cell: &Cell) -> Result<Option<(u64, u64)>, AllocError> {
+    for (number, by) in cell.iter() {
+        for (other, on) in cell.iter() {
+            let positive = Lit::new(1, true);
+            if number != other
+                && (takes(alloc, by, on, positive)? || takes(alloc, by, on, positive.negated())?)
+            {
+                return Ok(Some((number, other)));
+            }
+        }
+    }
+    Ok(None)
+}
+
+// Whether the first clause takes the literal from the second.
+fn takes(alloc: Global, by: &Clause, on: &Clause, lit: Lit) -> Result<bool, AllocError> {
+    if !on.contains(lit) || !by.contains(lit.negated()) {
+        return Ok(false);
+    }
+    let rest = by.without(alloc, lit.negated())?;
+    let left = on.without(alloc, lit)?;
+    Ok(rest.subset_of(&left))
 }
 
 // The cell of the variable 1, of these clauses numbered from 1 on.
