@@ -1,7 +1,9 @@
+mod Bits
 mod CellReading
 mod Entries
-mod Finding
+mod MarkFacts
 mod Posting
 mod Rounds
+mod Touching
 mod Turning
 mod UnderWay

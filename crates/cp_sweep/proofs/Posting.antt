@@ -21,7 +21,8 @@ use Rattle.cp_book.proofs.EmptyFacts.{has_empty-least}
 use Rattle.cp_occ.specs.Cells.{CellView, variables_of, lists_of}
 use Rattle.cp_occ.specs.Changes.{lists_after, AreCellsOf}
 use Rattle.cp_occ.proofs.Posted.{cells-after}
-use Rattle.cp_sweep.specs.Cursor.{Cursor, Turn, turn_for, after_post, sweep_post}
+use Rattle.cp_sweep.specs.Marks.{with_marks}
+use Rattle.cp_sweep.specs.Cursor.{Cursor, Turn, turn_for, touched_by, after_post, sweep_post}
 
 -- an answer that posts is no refusal
 pub posted-ok : (r : Result ℕ PostAnswer) (a : Answer) (n : ℕ) → given_answer r ≡ a → a ≡ Posted n → is_err r ≡ false
@@ -73,15 +74,15 @@ pub fits-not : (f : Formula) (e : Entry) → passes_numbers f e ≡ true → nat
 fits-not f e h = grind (arith, nat_tests)
 
 -- the turn of an entry that was posted, and of one that has no number
-pub turn-posted : (left : Formula) (c : Cursor) (x : ℕ) (e : Entry) → passes_numbers left e ≡ false → turn_for left c x (Some e) ≡ record { stop = None; cursor = after_post c x e }
-turn-posted left c x e h = rw (fits-from left e h) refl
+pub turn-posted : (left : Formula) (c : Cursor) (e : Entry) → passes_numbers left e ≡ false → turn_for left c (Some e) ≡ record { stop = None; cursor = after_post c e }
+turn-posted left c e h = rw (fits-from left e h) refl
 
-pub turn-numbers : (left : Formula) (c : Cursor) (x : ℕ) (e : Entry) → passes_numbers left e ≡ true → turn_for left c x (Some e) ≡ record { stop = Some StopNumbers; cursor = c }
-turn-numbers left c x e h = rw (fits-not left e h) refl
+pub turn-numbers : (left : Formula) (c : Cursor) (e : Entry) → passes_numbers left e ≡ true → turn_for left c (Some e) ≡ record { stop = Some StopNumbers; cursor = c }
+turn-numbers left c e h = rw (fits-not left e h) refl
 
 -- a turn that goes on, with its cursor at a post
-abbrev pub turn_at : List Post → ℕ → Turn
-turn_at posts x = record { stop = None; cursor = record { posts = posts; mark = x; quiet = 0 } }
+abbrev pub turn_at : List Post → ℕ → List Bool → Turn
+turn_at posts x touched = record { stop = None; cursor = record { posts = posts; mark = x; touched = touched } }
 
 same-formula : (s t : State) (rs : List Rule) → s.formula ≡ t.formula → (state_after s rs).formula ≡ (state_after t rs).formula
 same-formula s t [] e = e
@@ -107,8 +108,8 @@ module _ (b : BookView) (e : Entry) (n : e ≡ numbered (current b).next e) wher
   posted-cells rules old new v h a vs ls = subst (λ (f : Formula). AreCellsOf f new) (sym left-is) (cells-after (current b) rules e old new v h n a vs ls)
 
   -- and its cursor is that of the turn
-  pub posted-turn : (mark quiet x : ℕ) → passes_numbers (current b) e ≡ false
-      → turn_at (with_post b 0 0 e).posts x ≡ turn_for (current b) (record { posts = b.posts; mark = mark; quiet = quiet }) x (Some e)
-  posted-turn mark quiet x h =
-      ap (λ (ps : List Post). turn_at ps x) posts-are
-      ∙ sym (turn-posted (current b) (record { posts = b.posts; mark = mark; quiet = quiet }) x e h)
+  pub posted-turn : (mark : ℕ) (touched : List Bool) → passes_numbers (current b) e ≡ false
+      → turn_at (with_post b 0 0 e).posts mark (with_marks touched (touched_by e)) ≡ turn_for (current b) (record { posts = b.posts; mark = mark; touched = touched }) (Some e)
+  posted-turn mark touched h =
+      ap (λ (ps : List Post). turn_at ps mark (with_marks touched (touched_by e))) posts-are
+      ∙ sym (turn-posted (current b) (record { posts = b.posts; mark = mark; touched = touched }) e h)

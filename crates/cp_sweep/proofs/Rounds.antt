@@ -1,62 +1,83 @@
--- The round of variables from a mark up, and then from 1 up.
-use Rattle.std.proofs.Common.{◌≡◌, ℕ, zero, suc, ◌+◌, ◌-◌, ◌<◌, ◌≤◌, cond, length, get_or, sym, ap, ◌∙◌, inl, inr, arith, length-append}
-use Rattle.std.specs.Prelude.{◌⊎◌}
-use Rattle.std.specs.List.{Contains, range_with_len}
-use Rattle.std.proofs.lemmas.Bool.{cases_lt, le-leb, lt-leb}
-use Rattle.std.proofs.lemmas.List.{get_or_append_left, get_or-append_right}
-use Rattle.std.proofs.lemmas.List.Elements.{Contains-append_left, Contains-append_right}
-use Rattle.std.proofs.lemmas.List.FromFn.{length-range_with_len, get_or-range_with_len}
+-- The round of variables from a mark up, and then from 1 up, and what is found first in it.
+use Rattle.std.proofs.Common.{◌≡◌, ℕ, zero, suc, ◌+◌, ◌-◌, ◌<◌, ◌≤◌, Bool, true, false, cond, List, ◌∷◌, ◌++◌, Option, None, Some, refl, sym, ap, ◌∙◌, inl, inr, arith}
+use Rattle.std.specs.List.{Contains, find, range_with_len}
+use Rattle.std.specs.Option.{option_or}
+use Rattle.std.proofs.lemmas.List.Folds.{find-append}
+use Rattle.std.proofs.lemmas.List.Elements.{Contains-append_cases}
 use Rattle.cp_logic.specs.Sweeps.{variables_from}
 use Rattle.cp_logic.proofs.Members.{in_cases, none_in}
-use Rattle.cp_logic.proofs.Totals.{in_range}
-use Rattle.cp_sweep.specs.Cursor.{variable_at}
+use Rattle.cp_logic.proofs.Locals.{find_none}
 
--- a round has each variable once
-pub length-round : (variables mark : ℕ) → 1 ≤ mark → mark ≤ variables + 1 → length (variables_from variables mark) ≡ variables
-length-round variables mark l h =
-    length-append (range_with_len mark (variables + 1 - mark)) (range_with_len 1 (mark - 1))
-    ∙ ap (λ n. n + length (range_with_len 1 (mark - 1))) (length-range_with_len mark (variables + 1 - mark))
-    ∙ ap (λ n. variables + 1 - mark + n) (length-range_with_len 1 (mark - 1))
-    ∙ (let e : variables + 1 - mark + (mark - 1) ≡ variables = omega arith in e)
+-- ---- ranges
 
--- the variable at a place of the round
-pub round-at : (variables mark place : ℕ) → 1 ≤ mark → mark ≤ variables → place < variables → get_or (variables_from variables mark) place 0 ≡ variable_at variables mark place
-round-at variables mark place l h p = go (cases_lt place (variables + 1 - mark))
-  where
-    front : ℕ
-    front = variables + 1 - mark
-
-    go : (place < variables + 1 - mark) ⊎ (variables + 1 - mark ≤ place) → get_or (variables_from variables mark) place 0 ≡ variable_at variables mark place
-    go (inl b) =
-        get_or_append_left (range_with_len mark (variables + 1 - mark)) (range_with_len 1 (mark - 1)) 0 place (omega (arith, length-range_with_len mark (variables + 1 - mark)))
-        ∙ get_or-range_with_len mark (variables + 1 - mark) place 0 b
-        ∙ ap (λ b. cond b (mark + place) (place - (variables - mark))) (sym (le-leb place (variables - mark) (omega arith)))
-    go (inr b) =
-        get_or-append_right (range_with_len mark (variables + 1 - mark)) (range_with_len 1 (mark - 1)) (variables + 1 - mark) place 0 (length-range_with_len mark (variables + 1 - mark)) b
-        ∙ get_or-range_with_len 1 (mark - 1) (place - (variables + 1 - mark)) 0 (omega arith)
-        ∙ (let e : 1 + (place - (variables + 1 - mark)) ≡ place - (variables - mark) = omega arith in e)
-        ∙ ap (λ b. cond b (mark + place) (place - (variables - mark))) (sym (lt-leb place (variables - mark) (omega arith)))
-
--- and it is one of them
-pub variable_at-within : (variables mark place : ℕ) → 1 ≤ mark → mark ≤ variables → place < variables → (1 ≤ variable_at variables mark place) × (variable_at variables mark place ≤ variables)
-variable_at-within variables mark place l h p = go (cases_lt (variables - mark) place)
-  where
-    go : (variables - mark < place) ⊎ (place ≤ variables - mark) → (1 ≤ variable_at variables mark place) × (variable_at variables mark place ≤ variables)
-    go (inl b) = rw (lt-leb place (variables - mark) b) (omega arith, omega arith)
-    go (inr b) = rw (le-leb place (variables - mark) b) (omega arith, omega arith)
-
-of_range : (n a y : ℕ) → Contains (range_with_len a n) y → (a ≤ y) × (y < a + n)
+pub of_range : (n a y : ℕ) → Contains (range_with_len a n) y → (a ≤ y) × (y < a + n)
 of_range zero a y i = absurd (none_in y i)
 of_range (suc n) a y i = elim (in_cases y a (range_with_len (a + 1) n) i) [
   | inl e ↦ (omega arith, omega arith)
   | inr j ↦ let r = of_range n (a + 1) y j in (omega arith, omega arith)
 ]
 
--- each variable is in the round
-pub in_round : (variables mark y : ℕ) → 1 ≤ mark → mark ≤ variables + 1 → Contains (range_with_len 1 variables) y → Contains (variables_from variables mark) y
-in_round variables mark y l h i =
-    let r = of_range variables 1 y i in
-    elim (cases_lt y mark) [
-      | inl b ↦ Contains-append_right (range_with_len mark (variables + 1 - mark)) (range_with_len 1 (mark - 1)) y (in_range (mark - 1) 1 y (omega arith) (omega arith))
-      | inr b ↦ Contains-append_left (range_with_len mark (variables + 1 - mark)) (range_with_len 1 (mark - 1)) y (in_range (variables + 1 - mark) mark y b (omega arith))
-    ]
+-- each item of a round is a variable
+pub of_round : (variables mark y : ℕ) → 1 ≤ mark → mark ≤ variables + 1 → Contains (variables_from variables mark) y → (1 ≤ y) × (y ≤ variables)
+of_round variables mark y l h i = elim (Contains-append_cases (range_with_len mark (variables + 1 - mark)) (range_with_len 1 (mark - 1)) y i) [
+  | inl j ↦ let r = of_range (variables + 1 - mark) mark y j in (omega arith, omega arith)
+  | inr j ↦ let r = of_range (mark - 1) 1 y j in (omega arith, omega arith)
+]
+
+split : (n a b m whole : ℕ) → a + n ≡ b → n + m ≡ whole → range_with_len a whole ≡ range_with_len a n ++ range_with_len b m
+split zero a b m whole e s = ap (λ k. range_with_len k whole) (let h : a ≡ b = omega arith in h) ∙ ap (range_with_len b) (let h : whole ≡ m = omega arith in h)
+split (suc n) a b m zero e s = absurd (omega arith)
+split (suc n) a b m (suc whole) e s = ap (λ xs. a ∷ xs) (split n (a + 1) b m whole (omega arith) (omega arith))
+
+-- ---- the first of two lists
+
+or-left : {X : Type 0} (o d : Option X) → o ≡ None → option_or o d ≡ d
+or-left o d e = ap (λ z. option_or z d) e
+
+or-right : {X : Type 0} (o d : Option X) → d ≡ None → option_or o d ≡ o
+or-right None d e = e
+or-right (Some x) d e = refl
+
+module _ (p : ℕ → Bool) where
+  none : (a n : ℕ) → ((k : ℕ) → a ≤ k → k < a + n → p k ≡ false) → find p (range_with_len a n) ≡ None
+  none a n h = find_none p (range_with_len a n) (λ k i. let r = of_range n a k i in h k r.0 r.1)
+
+  skip : (xs ys : List ℕ) → find p xs ≡ None → find p (xs ++ ys) ≡ find p ys
+  skip xs ys e = find-append p xs ys ∙ or-left (find p xs) (find p ys) e
+
+  cut : (xs ys : List ℕ) → find p ys ≡ None → find p (xs ++ ys) ≡ find p xs
+  cut xs ys e = find-append p xs ys ∙ or-right (find p xs) (find p ys) e
+
+  same : (xs ys zs ws : List ℕ) → find p xs ≡ find p zs → find p ys ≡ find p ws → find p (xs ++ ys) ≡ find p (zs ++ ws)
+  same xs ys zs ws e f = find-append p xs ys ∙ ap (λ o. option_or o (find p ys)) e ∙ ap (option_or (find p zs)) f ∙ sym (find-append p zs ws)
+
+  module _ (variables : ℕ) where
+    -- a variable that passes is the first of its own round
+    pub round-head : (x : ℕ) → x ≤ variables → p x ≡ true → find p (variables_from variables x) ≡ Some x
+    round-head x h t =
+        ap (λ n. find p (range_with_len x n ++ range_with_len 1 (x - 1))) (let e : variables + 1 - x ≡ suc (variables - x) = omega arith in e)
+        ∙ ap (λ b. cond b (Some x) (find p (range_with_len (x + 1) (variables - x) ++ range_with_len 1 (x - 1)))) t
+
+    -- a mark may pass over variables that fail
+    pub round-up : (mark x : ℕ) → 1 ≤ mark → mark ≤ x → x ≤ variables → ((k : ℕ) → mark ≤ k → k < x → p k ≡ false)
+        → find p (variables_from variables mark) ≡ find p (variables_from variables x)
+    round-up mark x l b h fails =
+        let skipped = none mark (x - mark) (λ k i j. fails k i (omega arith)) in
+        let front = split (x - mark) mark x (variables + 1 - x) (variables + 1 - mark) (omega arith) (omega arith) in
+        let back = split (mark - 1) 1 mark (x - mark) (x - 1) (omega arith) (omega arith) in
+        same (range_with_len mark (variables + 1 - mark)) (range_with_len 1 (mark - 1)) (range_with_len x (variables + 1 - x)) (range_with_len 1 (x - 1))
+        (ap (find p) front ∙ skip (range_with_len mark (x - mark)) (range_with_len x (variables + 1 - x)) skipped)
+        (sym (ap (find p) back ∙ cut (range_with_len 1 (mark - 1)) (range_with_len mark (x - mark)) skipped))
+
+    -- also over the last one
+    pub round-over : (mark x : ℕ) → mark ≤ variables + 1 → 1 ≤ x → x < mark → ((k : ℕ) → mark ≤ k → k ≤ variables → p k ≡ false) → ((k : ℕ) → 1 ≤ k → k < x → p k ≡ false)
+        → find p (variables_from variables mark) ≡ find p (variables_from variables x)
+    round-over mark x h l b high low =
+        let skipped = none mark (variables + 1 - mark) (λ k i j. high k i (omega arith)) in
+        let first = none 1 (x - 1) (λ k i j. low k i (omega arith)) in
+        let front = split (x - 1) 1 x (mark - x) (mark - 1) (omega arith) (omega arith) in
+        let back = split (mark - x) x mark (variables + 1 - mark) (variables + 1 - x) (omega arith) (omega arith) in
+        skip (range_with_len mark (variables + 1 - mark)) (range_with_len 1 (mark - 1)) skipped
+        ∙ ap (find p) front ∙ skip (range_with_len 1 (x - 1)) (range_with_len x (mark - x)) first
+        ∙ sym (cut (range_with_len x (variables + 1 - x)) (range_with_len 1 (x - 1)) first
+        ∙ ap (find p) back ∙ cut (range_with_len x (mark - x)) (range_with_len mark (variables + 1 - mark)) skipped)

@@ -1,3 +1,4 @@
 pub mod Cursor
+pub mod Marks
 pub mod Sweeping
 pub mod Swept

@@ -1,12 +1,16 @@
 //! The sweep on one thread: every variable is searched in its cell, and what is found is posted into the book, until nothing
 //! applies.
 //!
-//! `simplify` is the one call for the layer above. It may rely on its contract alone: the journal is legal from the formula and is
-//! its sweep, what is left and the stack are the journal's fold, and the stop is that of the definition (`specs/Swept.antt`).
+//! `sweep` goes on from any book and `simplify` begins with a formula: these are the two calls for the layer above. It may rely on
+//! their contracts alone: the journal is legal from the first formula, what comes after the posts that the book had is their sweep,
+//! what is left and the stack are the journal's fold, the stop is that of the definition, and a budget that commits never reach
+//! doesn't stop it (`specs/Swept.antt`).
 #![tactic(auto)]
 
-mod sweep;
+mod marks;
 #[cfg(test)]
 mod tests;
+mod touch;
+mod turns;
 
-pub use sweep::{Swept, simplify};
+pub use turns::{Swept, simplify, sweep};

@@ -1,11 +1,15 @@
-//! Sweeps of small formulas, with their entries and what is left.
+//! Sweeps of small formulas, from the start and after a post, with their entries and what is left.
 
-ghost use Rattle.std.specs.Prelude.{◌≡◌, ◌≤◌, ◌^◌, IfOk, nat_lt};
+ghost use Rattle.std.specs.Prelude.{◌≡◌, ◌≤◌, ◌^◌, IfOk, IsFalse, nat_lt};
 ghost use Rattle.std.specs.List.{list_all};
 ghost use Rattle.cp_logic.specs.Literals.{variable_of};
+ghost use Rattle.cp_logic.specs.Entries.{is_look};
+ghost use Rattle.cp_logic.specs.Views.{entry_of};
 
-use crate::simplify;
-use cp_logic::{Choice, Clause, Entry, Formula, Journal, Lit, Rules, Stop};
+use crate::{simplify, sweep};
+use cp_book::Book;
+use cp_logic::{Choice, Clause, Entry, Formula, Journal, Lit, Named, Rules, Stop};
+use cp_occ::Cells;
 use std::alloc::{AllocError, Global};
 use std::fmt::Write;
 use std::process::Abort;
@@ -152,4 +156,46 @@ fn formulas_are_swept(rt: HostRuntime) -> Result<(), Fail> {
 fn numbers_end(rt: HostRuntime) -> Result<(), Fail> {
     let row: Row = (&[&[2], &[3]], 0, "", 2, Some(Stop::Numbers));
     assert_row(&rt, rt.alloc(), &row, 1_099_511_627_774)
+}
+
+// The entry by which the last of these clauses subsumes the second.
+fn subsumption(alloc: Global) -> Result<Entry, AllocError>
+    ensures { IfOk result (λ e. IsFalse (is_look (entry_of e))) }
+{
+    let by = Named {
+        number: 4,
+        clause: clause(alloc, &[6])?,
+    };
+    let gone = Named {
+        number: 2,
+        clause: clause(alloc, &[4, 6])?,
+    };
+    Ok(Entry::Subsume { by, gone })
+}
+
+#[test]
+fn a_journal_is_gone_on_from(rt: HostRuntime) -> Result<(), Fail> {
+    let clauses: [&[u8]; 4] = [&[2, 3, 4], &[4, 6], &[6, 4], &[6]];
+    let mut formula = Formula::new(rt.alloc(), 3, 1);
+    for codes in &clauses {
+        add(rt.alloc(), &mut formula, codes)?;
+    }
+    if formula.next() > 1_099_511_627_776 {
+        return Ok(());
+    }
+    let rules = Rules {
+        choice: CHOICE,
+        bound: 0,
+        budget: 0,
+    };
+    let mut book = Book::new(rt.alloc(), formula, rules)?;
+    let entry = subsumption(rt.alloc())?;
+    book.prepare(&entry)?;
+    assert!(rt; book.post(1, 1, entry).is_ok());
+    let cells = Cells::of_formula(rt.alloc(), book.clauses())?;
+    let swept = sweep(rt.alloc(), book, cells)?;
+    let letters = letters_of(rt.alloc(), &swept.journal)?;
+    assert_eq!(rt; letters.as_str(), "s4,2 t1 s4,3 ");
+    assert_eq!(rt; (swept.formula.len(), swept.stopped), (1, None));
+    Ok(())
 }

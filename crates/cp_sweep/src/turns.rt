@@ -1,0 +1,213 @@
+//! The sweep: every variable is searched until nothing applies.
+//!
+//! A mark goes round the variables from 1 up and begins again after the last. Where the search gives an entry, the book takes it
+//! and the cells follow, and the mark stays for a next search; where it gives nothing, the mark goes on. What applies at a variable
+//! is decided by its clauses, so the mark passes over each variable whose clauses stand as the last search there left them, and the
+//! sweep ends once that is so of all. A round takes the time of its searches: to search each variable again until a whole round
+//! gives nothing would take that of all clauses for each few entries.
+
+ghost use Rattle.std.specs.Prelude.{◌≡◌, ◌≤◌, ◌<◌, ◌+◌, ◌&&◌, ℕ, true, nat_lt, IfOk, OnOk, IsFalse, IsTrue, Some, None, length};
+ghost use Rattle.std.specs.Option.{option_map};
+ghost use Rattle.cp_logic.specs.Formulas.{IsFormula, has_empty};
+ghost use Rattle.cp_logic.specs.Entries.{is_look, numbered};
+ghost use Rattle.cp_logic.specs.Journals.{IsLegalJournal, folded, number_limit};
+ghost use Rattle.cp_logic.specs.Legality.{first, is_legal_in};
+ghost use Rattle.cp_logic.specs.Pairs.{pairs_of};
+ghost use Rattle.cp_logic.specs.Views.{entry_of};
+ghost use Rattle.cp_book.specs.Answers.{answer_to, Posted};
+ghost use Rattle.cp_book.specs.Views.{current, current_pairs, stop_in, with_post};
+ghost use Rattle.cp_sweep.specs.Marks.{is_marked, IsFirstAround};
+ghost use Rattle.cp_sweep.specs.Cursor.{next_turn, left_at, turn_for};
+ghost use Rattle.cp_sweep.specs.Swept.{IsSwept, IsSweptAfter, IsUnspent};
+ghost use Rattle.cp_occ.specs.Changes.{AreCellsOf};
+ghost use Rattle.cp_sweep.specs.Sweeping.{IsReady, cursor_of};
+
+use crate::marks::Marks;
+use crate::touch::touch;
+use cp_book::Book;
+use cp_eliminate::search;
+use cp_logic::{Entry, Formula, Journal, Rules, Stack, Stop};
+use cp_occ::Cells;
+use std::alloc::{AllocError, Global};
+
+/// What a sweep leaves: the formula, the journal of what was done to it, the pairs that complete its models, and why it stopped, if
+/// something was left to do.
+#[derive(Drop)]
+pub struct Swept {
+    /// What is left.
+    pub formula: Formula,
+    /// What was done, in order; the sweep's own posts are of worker 0 in round 0.
+    pub journal: Journal,
+    /// The pairs that complete a model of what is left, the first made first, over the variables of the formula.
+    pub stack: Stack,
+    /// None where nothing applies any more.
+    pub stopped: Option<Stop>,
+}
+
+// Where a sweep stands. The mark is the variable of the last search, and each variable at which something may be applicable is
+// touched.
+#[derive(Drop)]
+struct Sweeping {
+    book: Book,
+    cells: Cells,
+    mark: u32,
+    touched: Marks,
+}
+
+/// Simplifies the formula until no entry of the techniques that the rules choose applies, or the run has to stop: it is refuted,
+/// the budget of commits is spent, or clause numbers end. It is refused only for want of memory, and what was made is dropped.
+pub fn simplify(alloc: Global, formula: Formula, rules: &Rules) -> Result<Swept, AllocError>
+    requires numbers { formula.formula.next ≤ number_limit }
+    ensures swept { IfOk result (λ s. IsSwept formula.formula rules.now s.journal.items s.formula.formula s.stopped) }
+    ensures pairs { IfOk result (λ s. pairs_of s.stack.pairs ≡ (folded formula.formula s.journal.items).pairs) }
+    ensures variables { IfOk result (λ s. s.stack.vars ≡ formula.formula.variables) }
+    ensures unspent { IfOk result (λ s. IsUnspent formula.formula rules.now s.stopped) }
+{
+    let cells = Cells::of_formula(alloc, &formula)?;
+    let book = Book::new(alloc, formula, *rules)?;
+    sweep(alloc, book, cells)
+}
+
+/// Goes on from the book's posts until no entry of the techniques that its rules choose applies to what they leave, or the run has
+/// to stop, as `simplify` does. The cells are those of the book's current clauses.
+pub fn sweep(alloc: Global, book: Book, cells: Cells) -> Result<Swept, AllocError>
+    requires cells { AreCellsOf (current book) cells.items }
+    requires numbers { book.first.next ≤ number_limit }
+    ensures swept { IfOk result (λ s. IsSweptAfter book.first book.rules book.posts s.journal.items s.formula.formula s.stopped) }
+    ensures pairs { IfOk result (λ s. pairs_of s.stack.pairs ≡ (folded book.first s.journal.items).pairs) }
+    ensures variables { IfOk result (λ s. s.stack.vars ≡ book.first.variables) }
+    ensures unspent { IfOk result (λ s. IsUnspent book.first book.rules s.stopped) }
+{
+    book.is_legal();
+    let touched = all_touched(alloc, book.clauses().vars())?;
+    let mut state = Sweeping {
+        book,
+        cells,
+        mark: 1,
+        touched,
+    };
+    'searches: while let Some(var) = next_touched(&state) {
+        state.mark = var;
+        if let Some(stop) = turn(alloc, &mut state)? {
+            return Ok(closed(state.book, Some(stop)));
+        }
+    }
+    let stopped = state.book.stopped();
+    Ok(closed(state.book, stopped))
+}
+
+// All variables from 1 to `vars`.
+fn all_touched(alloc: Global, vars: u32) -> Result<Marks, AllocError>
+    requires { vars ≤ 2000000 }
+    ensures room { IfOk result (λ m. vars < length m) }
+    ensures touched { IfOk result (λ m. (x : ℕ) → is_marked m x ≡ nat_lt 0 x && nat_lt x (vars + 1)) }
+{
+    let mut touched = Marks::new(alloc, vars)?;
+    for index in 0..vars {
+        touched.insert(index as usize + 1);
+    }
+    Ok(touched)
+}
+
+// The first touched variable from the mark on, where 1 comes after the last.
+fn next_touched(state: &Sweeping) -> Option<u32>
+    requires { (x : ℕ) → is_marked state.now.touched x ≡ true → x ≤ 2000000 }
+    ensures { IsFirstAround (is_marked state.now.touched) state.now.mark result }
+{
+    let var = state.touched.first_around(state.mark as usize)?;
+    Some(var as u32)
+}
+
+// What the book leaves.
+fn closed(book: Book, stopped: Option<Stop>) -> Swept
+    ensures formula { result.formula.formula ≡ current book }
+    ensures journal { result.journal.items ≡ book.posts }
+    ensures pairs { pairs_of result.stack.pairs ≡ current_pairs book }
+    ensures variables { result.stack.vars ≡ book.first.variables }
+    ensures stopped { result.stopped ≡ stopped }
+{
+    let (formula, journal, stack) = book.close();
+    Swept {
+        formula,
+        journal,
+        stack,
+        stopped,
+    }
+}
+
+// One turn: the stop, if there is one, or the search at the mark and the post of what it gives.
+fn turn(alloc: Global, state: &mut Sweeping) -> Result<Option<Stop>, AllocError>
+    requires { IsReady state.old }
+    ensures turn { IfOk result (λ stop. record { stop = stop; cursor = cursor_of state.new } ≡ next_turn state.old.book.first state.old.book.rules (cursor_of state.old)) }
+    ensures first { OnOk result (state.new.book.first ≡ state.old.book.first) }
+    ensures rules { OnOk result (state.new.book.rules ≡ state.old.book.rules) }
+    ensures legal { OnOk result (IsLegalJournal state.new.book.first state.new.book.rules state.new.book.posts) }
+    ensures cells { OnOk result (AreCellsOf (left_at state.new.book.first (cursor_of state.new)) state.new.cells.items) }
+{
+    state.book.is_legal();
+    if let Some(stop) = state.book.stopped() {
+        return Ok(Some(stop));
+    }
+    match search_at(alloc, state)? {
+        None => {
+            state.touched.remove(state.mark as usize);
+            Ok(None)
+        }
+        Some(entry) => post(alloc, state, entry),
+    }
+}
+
+// The first entry at the mark.
+fn search_at(alloc: Global, state: &Sweeping) -> Result<Option<Entry>, AllocError>
+    requires cells { AreCellsOf (current state.now.book) state.now.cells.items }
+    requires filled { IsFalse (has_empty (current state.now.book).clauses) }
+    requires numbers { (current state.now.book).next ≤ number_limit }
+    requires low { 1 ≤ state.now.mark }
+    requires high { state.now.mark ≤ (current state.now.book).variables }
+    ensures { IfOk result (λ found. option_map entry_of found ≡ first (current state.now.book) state.now.book.rules state.now.mark) }
+{
+    let Some(cell) = state.cells.get(state.mark as usize - 1) else {
+        unreachable!()
+    };
+    search(alloc, cell, state.book.rules(), state.book.next())
+}
+
+// Lets the cells follow the entry that the search at the mark gave, and posts it, unless its new clause has no number. All
+// memory is taken before anything changes, and a legal entry whose numbers fit is posted.
+fn post(alloc: Global, state: &mut Sweeping, entry: Entry) -> Result<Option<Stop>, AllocError>
+    requires cells { AreCellsOf (current state.old.book) state.old.cells.items }
+    requires goes_on { stop_in state.old.book ≡ None }
+    requires found { first (current state.old.book) state.old.book.rules state.old.mark ≡ Some (entry_of entry) }
+    requires valid { IsFormula (current state.old.book) }
+    requires room { (current state.old.book).variables < length state.old.touched }
+    ensures turn { IfOk result (λ stop. record { stop = stop; cursor = cursor_of state.new } ≡ turn_for (current state.old.book) (cursor_of state.old) (Some (entry_of entry))) }
+    ensures first { OnOk result (state.new.book.first ≡ state.old.book.first) }
+    ensures rules { OnOk result (state.new.book.rules ≡ state.old.book.rules) }
+    ensures legal { OnOk result (IsLegalJournal state.new.book.first state.new.book.rules state.new.book.posts) }
+    ensures cells { OnOk result (AreCellsOf (current state.new.book) state.new.cells.items) }
+{
+    if state.book.passes_numbers(&entry) {
+        state.book.is_legal();
+        return Ok(Some(Stop::Numbers));
+    }
+    state.book.prepare(&entry)?;
+    let prepared = state.cells.prepare(alloc, &entry)?;
+    state.cells.apply(&entry, prepared);
+    touch(&mut state.touched, &entry);
+    append(&mut state.book, entry);
+    state.book.is_legal();
+    Ok(None)
+}
+
+// Posts an entry that is legal and that the book takes, as worker 0 in round 0.
+fn append(book: &mut Book, entry: Entry)
+    requires commit { IsFalse (is_look (entry_of entry)) }
+    requires prepared { book.old.prepared ≡ Some (entry_of entry) }
+    requires legal { IsTrue (is_legal_in (current book.old).clauses book.old.rules (numbered (current book.old).next (entry_of entry))) }
+    requires taken { answer_to book.old (entry_of entry) ≡ Posted (length book.old.posts) }
+    ensures { book.new ≡ with_post book.old 0 0 (entry_of entry) }
+{
+    if book.post_legal(0, 0, entry).is_err() {
+        unreachable!()
+    }
+}
