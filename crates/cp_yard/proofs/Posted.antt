@@ -1,10 +1,13 @@
 -- What a post changes: the clauses of the variables of its entry, as the entry says, and those of no other.
-use Rattle.std.proofs.Common.{◌≡◌, ℕ, Bool, true, false, List, [], ◌∷◌, ◌++◌, sym, ap, ◌∙◌}
+use Rattle.std.proofs.Common.{◌≡◌, ℕ, Bool, true, false, List, [], ◌∷◌, ◌++◌, ◌+◌, map, refl, sym, ap, ◌∙◌}
+use Rattle.std.specs.List.{flat_map}
+use Rattle.cp_logic.specs.declared.named.Named.{Named}
+use Rattle.cp_logic.specs.Literals.{variable_of}
 use Rattle.std.specs.Prelude.{IsFalse}
 use Rattle.cp_logic.specs.Clauses.{contains}
-use Rattle.cp_logic.specs.Formulas.{occurrences}
+use Rattle.cp_logic.specs.Formulas.{occurrences, set_of, variables_in}
 use Rattle.cp_logic.specs.Rules.{State, state_after}
-use Rattle.cp_logic.specs.Entries.{expand, variables_of}
+use Rattle.cp_logic.specs.Entries.{Entry, Taut, Subsume, Strengthen, Block, Eliminate, Look, expand, numbered, renumbered, variables_of}
 use Rattle.cp_logic.specs.Journals.{Post, MayFollow, folded}
 use Rattle.cp_logic.specs.Locality.{after}
 use Rattle.cp_logic.proofs.JournalRuns.{folded-push, post-may_follow, journal-formula}
@@ -27,3 +30,16 @@ module _ (f : Base) (h : List Post) (p : Post) (legal : IsLegal f h) (more : IsL
   pub clauses_at-other : (x : ℕ) → IsFalse (contains (variables_of p.entry) x) → clauses_at f (h ++ p ∷ []) x ≡ clauses_at f h x
   clauses_at-other x out = clauses-folded x
       ∙ others-stay (folded f.formula h) f.rules x p.entry (journal-formula f.formula f.rules h legal.0 legal.1).0 follows.legal follows.numbered out
+
+-- numbers change no variable
+renumbered-variables : (n : ℕ) (cs : List Named) → flat_map (λ (c : Named). map variable_of c.clause) (renumbered n cs) ≡ flat_map (λ (c : Named). map variable_of c.clause) cs
+renumbered-variables n [] = refl
+renumbered-variables n (c ∷ cs) = ap (λ vs. map variable_of c.clause ++ vs) (renumbered-variables (n + 1) cs)
+
+pub variables_of-numbered : (n : ℕ) (e : Entry) → variables_of (numbered n e) ≡ variables_of e
+variables_of-numbered n (Taut gone) = refl
+variables_of-numbered n (Subsume by gone) = refl
+variables_of-numbered n (Strengthen by on l new) = refl
+variables_of-numbered n (Block gone l) = refl
+variables_of-numbered n (Eliminate x pos neg new) = ap (λ vs. set_of ((x ∷ []) ++ (variables_in (pos ++ neg) ++ set_of vs))) (renumbered-variables n new)
+variables_of-numbered n (Look x) = refl

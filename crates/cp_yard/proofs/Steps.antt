@@ -160,16 +160,16 @@ module _ (f : Base) where
   pub noted_times : (n : Note) (v : SeatView) (k : ℕ) → times k (shares_of (noted n v)) ≡ times k (shares_of v)
   noted_times n v k = elim v.lives as (λ b. times k (if b then (noted n v).own ∷ v.others else []) ≡ times k (if b then v.own ∷ v.others else [])) [ true ↦ refl | false ↦ refl ]
 
-  pub lock-allowed : (slots id num : ℕ) (me : M) (x : ℕ) → me.0.lives ≡ true → me.0.hand ≡ 0 → me.0.number ≡ num → held_of x me.0.held ≡ None → 0 < x → x < slots
-      → Allows (Stands f) slots id me x (λ n. either (eqb n 0) (num + 1) n) (tries_lock (step slots x 0 (num + 1) none) me)
-  lock-allowed slots id num me x lives hand number free pos near s r deep at _ =
-      let v : SeatView = me.0 in let ok = r.seats id v at lives in let n : ℕ = get_or s.words x 0 in let num_is : num ≡ id = sym number ∙ ok.number in dite (ℕ_discrete n 0)
+  pub lock-allowed : (slots id mark : ℕ) (me : M) (x : ℕ) → me.0.lives ≡ true → me.0.hand ≡ 0 → mark ≡ me.0.number + 1 → held_of x me.0.held ≡ None → 0 < x → x < slots
+      → Allows (Stands f) slots id me x (λ n. either (eqb n 0) mark n) (tries_lock (step slots x 0 mark none) me)
+  lock-allowed slots id mark me x lives hand number free pos near s r deep at _ =
+      let v : SeatView = me.0 in let ok = r.seats id v at lives in let n : ℕ = get_or s.words x 0 in let mark_is : mark ≡ id + 1 = number ∙ ap (λ (z : ℕ). z + 1) ok.number in dite (ℕ_discrete n 0)
       (λ hit. let free_row : (c : CellView) × (get_elem? s.homes x ≡ some (some (OfVariable c))) × IsCellOf x (clauses_at f r.posts x) c = ⊎_elim (λ t. t.1) (λ t. let a = t.3 in absurd (omega arith)) (r.locks x pos (omega arith)) in
       let cell : CellView = free_row.0 in let l : List Named = cell.clauses in let is_occ : l ≡ clauses_at f r.posts x = free_row.2.1 in let note : Note = Got x l in let ns : List Note = v.own.notes ++ note ∷ [] in let notes' : ℕ → List Note = put r.notes id ns in let w : SeatView = reached_lock x l v in let wide = r.wide in
-      let homes' : Homes = set s.homes x none in let new : ℕ = num + 1 in
+      let homes' : Homes = set s.homes x none in let new : ℕ = mark in
       let word : (y : ℕ) → y ≢ x → get_or (set s.words x new) y 0 ≡ get_or s.words y 0 = λ y ne. get_or-set_other s.words x y new 0 ne in
       let home : (y : ℕ) → y ≢ x → get_elem? homes' y ≡ get_elem? s.homes y = λ y ne. set_else s.homes x y none ne in
-      let word_is : get_or (set s.words x new) x 0 ≡ id + 1 = get_or-set_same s.words x new 0 (omega arith) ∙ ap (λ (z : ℕ). z + 1) num_is in
+      let word_is : get_or (set s.words x new) x 0 ≡ id + 1 = get_or-set_same s.words x new 0 (omega arith) ∙ mark_is in
       let other : (y j : ℕ) → get_or s.words y 0 ≡ j + 1 → y ≢ x = λ y j p. apart s.words y x (j + 1) 0 p hit (λ q. omega arith) in
       let true_note : IsTrueNote f r.posts notes' id note = (r.posts, ([], append-nil r.posts), is_occ) in (
         w,
@@ -214,7 +214,7 @@ module _ (f : Base) where
         w,
         stays,
         tt,
-        subst (λ b. Stands f (stepped s x (either b (num + 1) n) id me.1 w stays)) (sym (ne_eqb n 0 miss))
+        subst (λ b. Stands f (stepped s x (either b mark n) id me.1 w stays)) (sym (ne_eqb n 0 miss))
             (moves f s r id v w at lives lives x n s.homes r.posts notes' refl r.legal r.workers
             record {
               base = ok.base;

@@ -50,16 +50,16 @@ bool_cases true = inl refl
 bool_cases false = inr refl
 
 module _ (f : Base) where
-  pub turn-allowed : (slots id num : ℕ) (me : M) → me.0.lives ≡ true → me.0.hand ≡ 0 → me.0.number ≡ num → me.0.turn ≡ None → 0 < slots
-      → Allows (Stands f) slots id me 0 (λ n. either (eqb n 0) (num + 1) n) (tries_turn (step slots 0 0 (num + 1) none) me)
-  turn-allowed slots id num me lives hand number free near s r deep at _ =
-      let v : SeatView = me.0 in let ok = r.seats id v at lives in let n : ℕ = get_or s.words 0 0 in let num_is : num ≡ id = sym number ∙ ok.number in dite (ℕ_discrete n 0)
+  pub turn-allowed : (slots id mark : ℕ) (me : M) → me.0.lives ≡ true → me.0.hand ≡ 0 → mark ≡ me.0.number + 1 → me.0.turn ≡ None → 0 < slots
+      → Allows (Stands f) slots id me 0 (λ n. either (eqb n 0) mark n) (tries_turn (step slots 0 0 mark none) me)
+  turn-allowed slots id mark me lives hand number free near s r deep at _ =
+      let v : SeatView = me.0 in let ok = r.seats id v at lives in let n : ℕ = get_or s.words 0 0 in let mark_is : mark ≡ id + 1 = number ∙ ap (λ (z : ℕ). z + 1) ok.number in dite (ℕ_discrete n 0)
       (λ hit. let h : List Post = r.posts in let note : Note = GotTurn h in let ns : List Note = v.own.notes ++ note ∷ [] in let notes' : ℕ → List Note = put r.notes id ns in let w : SeatView = reached_turn h v in let wide = r.wide in
-      let homes' : Homes = set s.homes 0 none in let new : ℕ = num + 1 in let home₀ : (b : BookView) × (get_elem? s.homes 0 ≡ some (some (OfTurn b))) × IsBookOf f h b = ⊎_elim (λ t. t.1) (λ t. let a = t.2 in absurd (omega arith)) r.turn in
+      let homes' : Homes = set s.homes 0 none in let new : ℕ = mark in let home₀ : (b : BookView) × (get_elem? s.homes 0 ≡ some (some (OfTurn b))) × IsBookOf f h b = ⊎_elim (λ t. t.1) (λ t. let a = t.2 in absurd (omega arith)) r.turn in
       let book : BookView = home₀.0 in let it : Item = OfTurn book in
       let word : (y : ℕ) → y ≢ 0 → get_or (set s.words 0 new) y 0 ≡ get_or s.words y 0 = λ y ne. get_or-set_other s.words 0 y new 0 ne in
       let home : (y : ℕ) → y ≢ 0 → get_elem? homes' y ≡ get_elem? s.homes y = λ y ne. set_else s.homes 0 y none ne in
-      let word_is : get_or (set s.words 0 new) 0 0 ≡ id + 1 = get_or-set_same s.words 0 new 0 (omega arith) ∙ ap (λ (z : ℕ). z + 1) num_is in
+      let word_is : get_or (set s.words 0 new) 0 0 ≡ id + 1 = get_or-set_same s.words 0 new 0 (omega arith) ∙ mark_is in
       let other : (y j : ℕ) → get_or s.words y 0 ≡ j + 1 → y ≢ 0 = λ y j p. apart s.words y 0 (j + 1) 0 p hit (λ q. omega arith) in
       let true_note : IsTrueNote f r.posts notes' id note = ([], append-nil r.posts) in (
         w,
@@ -93,7 +93,7 @@ module _ (f : Base) where
         w,
         stays,
         tt,
-        subst (λ b. Stands f (stepped s 0 (either b (num + 1) n) id me.1 w stays)) (sym (ne_eqb n 0 miss))
+        subst (λ b. Stands f (stepped s 0 (either b mark n) id me.1 w stays)) (sym (ne_eqb n 0 miss))
             (moves f s r id v w at lives lives 0 n s.homes r.posts notes' refl r.legal r.workers
             record {
               base = ok.base;
@@ -188,11 +188,16 @@ module _ (f : Base) where
             (λ z. calm y (λ e. omega arith)) (λ k e. (after k y p.entry, held_of-after p.entry y v.held k e)) (r.locks y above small))),
         (
           ap rest carried,
-          λ b₁ h₁ q turn₁ e posts. let a : h₁ ≡ h₀ = some_same h₁ h₀ (sym turn₁ ∙ turn) in
-              let same : b₁ ≡ b = same_book b₁ b (same_item me.1 0 0 (OfTurn b₁) (OfTurn b) [] [] e carried) in
-              let both : h₁ ++ q ∷ [] ≡ h₀ ++ p ∷ [] = sym posts ∙ (ap (λ (z : BookView). z.posts) same ∙ is_book.2) in
-              let c : q ≡ p = sym (last_snoc h₁ p q) ∙ (ap (last_or p) both ∙ last_snoc h₀ p p) in
-              sym (λ i. with_post (length (a i)) (c i) v),
+          λ b₁ e. let same : b₁ ≡ b = same_book b₁ b (same_item me.1 0 0 (OfTurn b₁) (OfTurn b) [] [] e carried) in
+              let after_it : h' ≡ b₁.posts = ap (λ z. z ++ p ∷ []) (sym same_h) ∙ (sym is_book.2 ∙ ap (λ (z : BookView). z.posts) (sym same)) in (
+                (λ h₁ q turn₁ posts. let a : h₁ ≡ h₀ = some_same h₁ h₀ (sym turn₁ ∙ turn) in
+                let both : h₁ ++ q ∷ [] ≡ h₀ ++ p ∷ [] = sym posts ∙ (ap (λ (z : BookView). z.posts) same ∙ is_book.2) in
+                let c : q ≡ p = sym (last_snoc h₁ p q) ∙ (ap (last_or p) both ∙ last_snoc h₀ p p) in
+                sym (λ i. with_post (length (a i)) (c i) v)),
+                (λ y k held. let m = held_of-before p.entry y v.held k held in let o = ok.held y m.0 m.1 in
+                m.2 ∙ (ap (λ (l : List Named). after l y p.entry) o.2 ∙ (sym (clauses_at-post f r.posts p r.legal legal' y)
+                ∙ (λ i. clauses_at (sym ok.base i) (after_it i) y)))),
+              ),
         ),
       )
     where

@@ -48,7 +48,9 @@ unlocks st m found m' = (m'.0 ≡ unlocked st.word m.0) × (m'.1 ≡ [])
 abbrev pub ends_turn : Step Item → Sat → ℕ → Sat → Type 0
 ends_turn st m found m' = (m'.0 ≡ without_turn m.0) × (m'.1 ≡ [])
 
--- the turn ends with one post more
+-- the turn ends with one post more, and what the seat holds are then the clauses after it
 abbrev pub posts_entry : Step Item → Sat → ℕ → Sat → Type 0
 posts_entry st m found m' = (m'.1 ≡ [])
-    × ((b : BookView) (h : List Post) (p : Post) → m.0.turn ≡ Some h → m.1 ≡ (0, OfTurn b) ∷ [] → b.posts ≡ h ++ p ∷ [] → m'.0 ≡ with_post (length h) p m.0)
+    × ((b : BookView) → m.1 ≡ (0, OfTurn b) ∷ []
+    → ((h : List Post) (p : Post) → m.0.turn ≡ Some h → b.posts ≡ h ++ p ∷ [] → m'.0 ≡ with_post (length h) p m.0)
+    × ((x : ℕ) (cs : List Named) → held_of x m'.0.held ≡ Some cs → cs ≡ clauses_at m.0.base b.posts x))

@@ -1,5 +1,5 @@
 //! Seats, and the record of the last one.
-ghost use Rattle.std.specs.Prelude.{◌≡◌, ◌≢◌, [], true};
+ghost use Rattle.std.specs.Prelude.{◌≡◌, ◌+◌, [], true};
 
 use crate::plays::Place;
 use std::marker::Model;
@@ -43,6 +43,13 @@ impl Seat {
         ensures { result ≡ self.now.view.made }
     {
         self.made
+    }
+
+    // What stands in the words of the locks and of the turn that the seat has.
+    pub(crate) fn word(&self) -> u64
+        ensures { result ≡ self.now.view.number + 1 }
+    {
+        self.number as u64 + 1
     }
 
     // What the seat steps with.

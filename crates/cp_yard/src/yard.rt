@@ -1,5 +1,5 @@
 //! The yard: locks on variables, and a turn that has the book.
-ghost use Rattle.std.specs.Prelude.{◌≡◌, ◌≢◌, ℕ, ◌+◌, ◌<◌, ◌≤◌, ◌^◌, List, [], ◌∷◌, ◌++◌, length, IfOk, IfErr, Some, None};
+ghost use Rattle.std.specs.Prelude.{◌≡◌, ◌≢◌, ℕ, ◌+◌, ◌-◌, ◌<◌, ◌≤◌, ◌^◌, List, [], ◌∷◌, ◌++◌, length, IfOk, IfErr, Some, None};
 ghost use Rattle.std.specs.List.{All};
 ghost use Rattle.cp_logic.specs.declared.named.Named.{Named};
 ghost use Rattle.cp_logic.specs.Journals.{Post};
@@ -46,6 +46,19 @@ pub struct Yard {
     // The emptied list of cells, with its room.
     cells: Cells,
     vars: u32,
+}
+
+impl Held {
+    // The seat that a word names, which is 1 more than its number.
+    fn named_by(found: u64) -> Held
+        requires some { 0 < found }
+        requires high { found ≤ 2 ^ 32 }
+        ensures { result.by ≡ found - 1 }
+    {
+        Held {
+            by: (found - 1) as u32,
+        }
+    }
 }
 
 impl Model for Yard {
@@ -138,12 +151,10 @@ impl Yard {
     {
         let shared = &self.table.shared;
         let slot = var as usize;
-        let mine = seat.number as u64 + 1;
-        let found = shared.compare_exchange::<TryLock>(&mut seat.place, slot, 0, mine);
+        let word = seat.word();
+        let found = shared.compare_exchange::<TryLock>(&mut seat.place, slot, 0, word);
         if found != 0 {
-            return Err(Held {
-                by: (found - 1) as u32,
-            });
+            return Err(Held::named_by(found));
         }
         let item = shared.exchange(&mut seat.place, slot, Item::Nothing);
         shared.load::<ReturnSlot>(&mut seat.place, slot);
@@ -180,12 +191,10 @@ impl Yard {
         ensures met { IfErr result (λ m. (m.by ≢ seat.old.view.number) × (seat.new.view ≡ noted (MetTurn m.by) seat.old.view)) }
     {
         let shared = &self.table.shared;
-        let mine = seat.number as u64 + 1;
-        let found = shared.compare_exchange::<TryTurn>(&mut seat.place, 0, 0, mine);
+        let word = seat.word();
+        let found = shared.compare_exchange::<TryTurn>(&mut seat.place, 0, 0, word);
         if found != 0 {
-            return Err(Held {
-                by: (found - 1) as u32,
-            });
+            return Err(Held::named_by(found));
         }
         let item = shared.exchange(&mut seat.place, 0, Item::Nothing);
         shared.load::<ReturnSlot>(&mut seat.place, 0);
@@ -218,6 +227,7 @@ impl Yard {
         ensures table { seat.new.table ≡ seat.old.table }
         ensures position { (h : List Post) (p : Post) → seat.old.view.turn ≡ Some h → book.posts ≡ h ++ p ∷ [] → result.position ≡ length h }
         ensures seat { (h : List Post) (p : Post) → seat.old.view.turn ≡ Some h → book.posts ≡ h ++ p ∷ [] → seat.new.view ≡ with_post (length h) p seat.old.view }
+        ensures held { (x : ℕ) (cs : List Named) → held_of x seat.new.view.held ≡ Some cs → cs ≡ clauses_at (base_of book) book.posts x }
     {
         book.is_legal();
         let position = book.journal().len() as u64 - 1;

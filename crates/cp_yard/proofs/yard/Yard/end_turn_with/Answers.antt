@@ -3,7 +3,7 @@ use Rattle.atomic_table.specs.Table.{rest}
 use Rattle.cp_logic.specs.Journals.{Post}
 use Rattle.cp_yard.specs.declared.item.Item.TheVariants.{OfTurn}
 use Rattle.cp_yard.specs.Views.{Base, SeatView, base_of, with_hand, with_post}
-use Rattle.cp_yard.specs.Rule.{IsLegal, HoldsAll}
+use Rattle.cp_yard.specs.Rule.{IsLegal, HoldsAll, clauses_at}
 use Rattle.cp_yard.proofs.Steps.{take-allowed}
 use Rattle.cp_yard.proofs.Turns.{post-allowed, book_of-base}
 use Rattle.cp_yard.proofs.yard.Yard.end_turn_with.Goals as goal
@@ -34,11 +34,17 @@ store-requires c = let i = c.seat.invariant in let q = c.requires.post in let t 
 pub invariant_of-seat : goal.invariant_of-seat
 invariant_of-seat c = let i = c.seat.invariant in let q = c.requires.post in let t = c.load.ensures.2 in let now = c.exchange.ensures.3 in let v : SeatView = c.seat.inside.place.me.0 in
     let is : c.exchange.new.seat.me.0 ≡ with_hand 1 v = ap (λ m. m.0) now ∙ t.0 in
-    let w = c.store.ensures.2.1 c.args.book q.0 q.1 (ap (λ (w : SeatView). w.turn) is ∙ (ap (λ z. z.view.turn) c.seat.view_is ∙ q.2)) (ap (λ m. m.1) now ∙ (λ j. (0, OfTurn c.args.book) ∷ rest (t.1 j))) q.3 ∙ ap (with_post (length q.0) q.1) is in
+    let w = (c.store.ensures.2.1 c.args.book (ap (λ m. m.1) now ∙ (λ j. (0, OfTurn c.args.book) ∷ rest (t.1 j)))).0 q.0 q.1 (ap (λ (w : SeatView). w.turn) is ∙ (ap (λ z. z.view.turn) c.seat.view_is ∙ q.2)) q.3 ∙ ap (with_post (length q.0) q.1) is in
     (c.store.ensures.2.0, ap (λ (w : SeatView). w.lives) w ∙ i.1, ap (λ (w : SeatView). w.hand) w, ap (λ (w : SeatView). w.number) w ∙ i.3, (λ z. ap (λ (w : SeatView). w.made) w ∙ i.4 z))
 
 pub returns-clause-seat : goal.returns-clause-seat
 returns-clause-seat c = λ h p turn is_posts. let t = c.load.ensures.2 in let now = c.exchange.ensures.3 in let v : SeatView = c.seat.inside.place.me.0 in
     let is : c.exchange.new.seat.me.0 ≡ with_hand 1 v = ap (λ m. m.0) now ∙ t.0 in
-    c.store.ensures.2.1 c.args.book h p (ap (λ (w : SeatView). w.turn) is ∙ (ap (λ z. z.view.turn) c.seat.view_is ∙ turn)) (ap (λ m. m.1) now ∙ (λ j. (0, OfTurn c.args.book) ∷ rest (t.1 j))) is_posts
+    (c.store.ensures.2.1 c.args.book (ap (λ m. m.1) now ∙ (λ j. (0, OfTurn c.args.book) ∷ rest (t.1 j)))).0 h p (ap (λ (w : SeatView). w.turn) is ∙ (ap (λ z. z.view.turn) c.seat.view_is ∙ turn)) is_posts
     ∙ (ap (with_post (length h) p) is ∙ ap (λ z. with_post (length h) p z.view) c.seat.view_is)
+
+pub returns-clause-held : goal.returns-clause-held
+returns-clause-held c = λ x cs e. let t = c.load.ensures.2 in let now = c.exchange.ensures.3 in let v : SeatView = c.seat.inside.place.me.0 in
+    let is : c.exchange.new.seat.me.0 ≡ with_hand 1 v = ap (λ m. m.0) now ∙ t.0 in
+    let base : base_of c.args.book ≡ c.exchange.new.seat.me.0.base = c.requires.base ∙ (ap (λ z. z.view.base) (sym c.seat.view_is) ∙ ap (λ (w : SeatView). w.base) (sym is)) in
+    (c.store.ensures.2.1 c.args.book (ap (λ m. m.1) now ∙ (λ j. (0, OfTurn c.args.book) ∷ rest (t.1 j)))).1 x cs e ∙ ap (λ (z : Base). clauses_at z c.args.book.posts x) (sym base)

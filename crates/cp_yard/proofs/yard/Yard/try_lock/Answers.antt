@@ -1,4 +1,4 @@
-use Rattle.std.proofs.Common.{◌≡◌, ℕ, List, ◌∷◌, sym, ap, ◌∙◌, subst, inr, rules}
+use Rattle.std.proofs.Common.{◌≡◌, ℕ, ◌+◌, List, ◌∷◌, sym, ap, ◌∙◌, subst, inr, rules}
 use Rattle.atomic_table.specs.Table.{rest}
 use Rattle.cp_logic.specs.declared.named.Named.{Named}
 use Rattle.cp_occ.specs.Cells.{CellView}
@@ -15,7 +15,7 @@ pub compare_exchange-found-requires : goal.compare_exchange-found-requires
 compare_exchange-found-requires c = let i = c.seat.invariant in (
   search rules,
   search rules,
-  lock-allowed (base_of c.self.inside.table.shared.key.value) _ _ c.seat.inside.number _ c.args.var i.1 i.2 i.3 (ap (λ z. held_of c.args.var z.view.held) c.seat.view_is ∙ c.requires.free) c.requires.low (search rules),
+  lock-allowed (base_of c.self.inside.table.shared.key.value) _ _ _ _ c.args.var i.1 i.2 (c.word-word.ensures ∙ ap (λ z. z.view.number + 1) (sym c.seat.view_is)) (ap (λ z. held_of c.args.var z.view.held) c.seat.view_is ∙ c.requires.free) c.requires.low (search rules),
 )
 
 pub exchange-item-requires : goal.exchange-item-requires

@@ -1,4 +1,4 @@
-use Rattle.std.proofs.Common.{◌≡◌, ℕ, List, ◌∷◌, sym, refl, ap, ◌∙◌, inl, rules}
+use Rattle.std.proofs.Common.{◌≡◌, ℕ, ◌+◌, List, ◌∷◌, sym, refl, ap, ◌∙◌, inl, rules}
 use Rattle.atomic_table.specs.Table.{rest}
 use Rattle.cp_logic.specs.Journals.{Post}
 use Rattle.cp_book.specs.Views.{BookView}
@@ -15,7 +15,7 @@ pub compare_exchange-found-requires : goal.compare_exchange-found-requires
 compare_exchange-found-requires c = let i = c.seat.invariant in (
   search rules,
   search rules,
-  turn-allowed (base_of c.self.inside.table.shared.key.value) _ _ c.seat.inside.number _ i.1 i.2 i.3 (ap (λ z. z.view.turn) c.seat.view_is ∙ c.requires.turn) (search rules),
+  turn-allowed (base_of c.self.inside.table.shared.key.value) _ _ _ _ i.1 i.2 (c.word-word.ensures ∙ ap (λ z. z.view.number + 1) (sym c.seat.view_is)) (ap (λ z. z.view.turn) c.seat.view_is ∙ c.requires.turn) (search rules),
 )
 
 pub exchange-item-requires : goal.exchange-item-requires
