@@ -1,6 +1,5 @@
 -- The first state of a yard, and what is left where one seat has the numbers of all.
-use Rattle.std.proofs.Common.{◌≡◌, ℕ, zero, suc, ◌+◌, ◌<◌, ◌≤◌, true, ◌⊎◌, List, [], ◌∷◌, ◌++◌, map, length, replicate, get_or, Some, None, All, sym, refl, ap, ◌∙◌, subst, inl, inr, ⊎_elim, arith}
-use Rattle.std.specs.Prelude.{◌^◌}
+use Rattle.std.proofs.Common.{◌≡◌, ℕ, zero, suc, ◌+◌, ◌<◌, ◌≤◌, true, List, [], ◌∷◌, ◌++◌, map, length, replicate, get_or, Some, None, All, sym, refl, ap, ◌∙◌, subst, inl, ⊎_elim, arith}
 use Rattle.std.specs.List.{Contains, range_with_len}
 use Rattle.std.proofs.lemmas.List.{map-append, map-id}
 use Rattle.std.proofs.lemmas.List.FromFn.{length-range_with_len}
@@ -15,13 +14,13 @@ use Rattle.cp_logic.specs.Formulas.{Formula}
 use Rattle.cp_logic.specs.Journals.{Post, posts_of, folded}
 use Rattle.cp_logic.proofs.JournalRuns.{journal-formula}
 use Rattle.cp_logic.proofs.Members.{none_in}
-use Rattle.cp_book.specs.Views.{BookView, current}
+use Rattle.cp_book.specs.Views.{BookView}
 use Rattle.cp_occ.specs.Cells.{CellView, variables_of, lists_of}
 use Rattle.cp_occ.specs.Changes.{AreCellsOf}
 use Rattle.cp_yard.specs.declared.item.Item.{Item}
 use Rattle.cp_yard.specs.declared.item.Item.TheVariants.{OfVariable, OfTurn}
-use Rattle.cp_yard.specs.Views.{Base, Note, Share, SeatView, base_of, founder, all_shares, held_of, shares_of, times, once_below}
-use Rattle.cp_yard.specs.Rule.{IsCellOf, IsBookOf, IsLegal, IsShare, Knows, Stands, Account, IsAlone, clauses_at}
+use Rattle.cp_yard.specs.Views.{Base, Share, SeatView, base_of, founder, all_shares, held_of, shares_of, times, once_below}
+use Rattle.cp_yard.specs.Rule.{IsCellOf, IsBookOf, IsLegal, Knows, Stands, Account, IsAlone, clauses_at}
 use Rattle.cp_yard.proofs.Lists.{in_front, total_one, total_two, times_in, once_le, in_range, none_some}
 use Rattle.cp_yard.proofs.Frame.{St, mine_among, shares_alive}
 

@@ -7,3 +7,4 @@ pub mod Turns
 pub mod Seats
 pub mod Closing
 pub mod Crossing
+pub mod Rows

@@ -1,5 +1,5 @@
 -- Lists of locks, posts, notes, shares and seats.
-use Rattle.std.proofs.Common.{◌≡◌, ◌≢◌, ℕ, zero, suc, ◌+◌, ◌<◌, ◌≤◌, eqb, Bool, true, false, cond, ◌⊎◌, List, [], ◌∷◌, ◌++◌, length, get_or, set, Some, None, All, sym, refl, ap, ◌∙◌, subst, inl, inr, ⊎_elim, arith, eq-eqb, ne_eqb, append-nil, zero-add}
+use Rattle.std.proofs.Common.{◌≡◌, ◌≢◌, ℕ, zero, suc, ◌+◌, ◌<◌, ◌≤◌, eqb, Bool, true, false, cond, ◌⊎◌, List, [], ◌∷◌, ◌++◌, length, set, Some, None, All, sym, refl, ap, ◌∙◌, inl, inr, ⊎_elim, arith, eq-eqb, ne_eqb, append-nil, zero-add}
 use Rattle.std.specs.List.{Contains, filter, enumerate_from}
 use Rattle.std.proofs.lemmas.List.Elements.{filter-append, Contains-append_left, Contains-append_right, Contains-append_cases}
 use mathlib.Core.Option.{some, some-injective, some-ne-none}
@@ -10,7 +10,7 @@ use Rattle.cp_logic.specs.declared.named.Named.{Named}
 use Rattle.cp_logic.specs.Entries.{Entry}
 use Rattle.cp_logic.specs.Journals.{Post, posts_of}
 use Rattle.cp_logic.specs.Locality.{after}
-use Rattle.cp_logic.proofs.Members.{none_in, in_here, in_later, in_cases}
+use Rattle.cp_logic.proofs.Members.{none_in, in_here, in_cases}
 use Rattle.cp_yard.specs.Views.{Lock, lock, held_of, without_lock, locks_after, Share, times, total, once_below}
 
 -- ---- locks

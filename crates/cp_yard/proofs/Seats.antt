@@ -1,5 +1,5 @@
 -- A new seat, and a seat that is taken in, keep the rule.
-use Rattle.std.proofs.Common.{◌≡◌, ◌≢◌, ℕ, zero, suc, ◌+◌, ◌<◌, ◌≤◌, eqb, ◌==◌, Bool, true, false, ◌⊎◌, List, [], ◌∷◌, ◌++◌, length, get_or, set, Some, None, All, sym, refl, ap, ◌∙◌, subst, inl, inr, ⊎_elim, arith, length-set, length-append, ne_eqb, if◌then◌else◌, true≢false}
+use Rattle.std.proofs.Common.{◌≡◌, ◌≢◌, ℕ, ◌+◌, ◌<◌, ◌≤◌, ◌==◌, true, List, [], ◌∷◌, ◌++◌, length, get_or, set, Some, None, All, sym, refl, ap, ◌∙◌, subst, inl, inr, ⊎_elim, arith, length-set, length-append, if◌then◌else◌, true≢false}
 use Rattle.std.specs.Prelude.{◌^◌}
 use Rattle.std.specs.List.{Contains}
 use Rattle.std.proofs.lemmas.List.Elements.{Contains-append_cases}
@@ -13,7 +13,7 @@ use Rattle.cp_logic.specs.declared.named.Named.{Named}
 use Rattle.cp_logic.specs.Journals.{Post, posts_of}
 use Rattle.cp_logic.proofs.Members.{none_in}
 use Rattle.cp_yard.specs.Views.{Base, Note, Share, SeatView, empty_share, held_of, shares_of, times, total, once_below, parent, child, joined, spent}
-use Rattle.cp_yard.specs.Rule.{Homes, IsShare, Knows, IsTurnKept, IsLockKept, Stands}
+use Rattle.cp_yard.specs.Rule.{Homes, Knows, IsTurnKept, IsLockKept, Stands}
 use Rattle.cp_yard.proofs.Lists.{in_front, at_end, total_set, total_snoc, times-append, in_range, posts_of-none, none_some}
 use Rattle.cp_yard.proofs.Frame.{shares_alive, seats_put, lock_stays, turn_stays}
 

@@ -16,9 +16,9 @@ use Rattle.cp_occ.specs.Cells.{CellView}
 use Rattle.cp_yard.specs.declared.item.Item.{Item}
 use Rattle.cp_yard.specs.declared.item.Item.TheVariants.{OfVariable, Nothing}
 use Rattle.cp_yard.specs.Views.{Base, Note, Got, GotTurn, Met, Share, SeatView, held_of, without_lock, lock, shares_of, times, noted, reached_lock, with_hand, unlocked}
-use Rattle.cp_yard.specs.Rule.{AreClausesAt, IsCellOf, Homes, IsBare, IsShare, Knows, IsTrueNote, IsLockKept, Stands, clauses_at}
+use Rattle.cp_yard.specs.Rule.{AreClausesAt, IsCellOf, Homes, IsBare, Knows, IsTrueNote, IsLockKept, Stands, clauses_at}
 use Rattle.cp_yard.specs.Steps.{tries_lock, returns_slot, takes_slot, unlocks}
-use Rattle.cp_yard.proofs.Lists.{in_front, in_snoc, in_left, in_last, in_range, held_of-without, held_of-others, held_of-same, held_of-other, some_same, none_some}
+use Rattle.cp_yard.proofs.Lists.{in_front, in_snoc, in_left, in_last, in_range, held_of-without, held_of-others, held_of-same, held_of-other, some_same}
 use Rattle.cp_yard.proofs.Frame.{St, put, put_here, put_else, shares_alive, mine_among, note_grows, others_not_mine, lock_stays, turn_stays, moves}
 
 abbrev pub M : Type 0

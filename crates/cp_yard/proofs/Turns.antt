@@ -19,8 +19,8 @@ use Rattle.cp_logic.proofs.Members.{in_later}
 use Rattle.cp_book.specs.Views.{BookView}
 use Rattle.cp_yard.specs.declared.item.Item.{Item}
 use Rattle.cp_yard.specs.declared.item.Item.TheVariants.{OfTurn}
-use Rattle.cp_yard.specs.Views.{Base, Note, Got, GotTurn, MetTurn, Share, SeatView, base_of, held_of, shares_of, times, noted, reached_turn, without_turn, with_post}
-use Rattle.cp_yard.specs.Rule.{Homes, IsBookOf, IsLegal, IsShare, IsTrueNote, Stands, HoldsAll, clauses_at}
+use Rattle.cp_yard.specs.Views.{Base, Note, Got, GotTurn, MetTurn, Share, SeatView, base_of, shares_of, times, noted, reached_turn, without_turn, with_post}
+use Rattle.cp_yard.specs.Rule.{Homes, IsBookOf, IsLegal, IsTrueNote, Stands, HoldsAll, clauses_at}
 use Rattle.cp_yard.specs.Steps.{tries_turn, ends_turn, posts_entry}
 use Rattle.cp_yard.proofs.Lists.{in_front, in_left, in_last, in_range, held_of-after, held_of-before, posts_of-own, posts_of-other, some_same, none_some}
 use Rattle.cp_yard.proofs.Posted.{clauses_at-post, clauses_at-other}
@@ -191,12 +191,12 @@ module _ (f : Base) where
           λ b₁ e. let same : b₁ ≡ b = same_book b₁ b (same_item me.1 0 0 (OfTurn b₁) (OfTurn b) [] [] e carried) in
               let after_it : h' ≡ b₁.posts = ap (λ z. z ++ p ∷ []) (sym same_h) ∙ (sym is_book.2 ∙ ap (λ (z : BookView). z.posts) (sym same)) in (
                 (λ h₁ q turn₁ posts. let a : h₁ ≡ h₀ = some_same h₁ h₀ (sym turn₁ ∙ turn) in
-                let both : h₁ ++ q ∷ [] ≡ h₀ ++ p ∷ [] = sym posts ∙ (ap (λ (z : BookView). z.posts) same ∙ is_book.2) in
-                let c : q ≡ p = sym (last_snoc h₁ p q) ∙ (ap (last_or p) both ∙ last_snoc h₀ p p) in
-                sym (λ i. with_post (length (a i)) (c i) v)),
+                    let both : h₁ ++ q ∷ [] ≡ h₀ ++ p ∷ [] = sym posts ∙ (ap (λ (z : BookView). z.posts) same ∙ is_book.2) in
+                    let c : q ≡ p = sym (last_snoc h₁ p q) ∙ (ap (last_or p) both ∙ last_snoc h₀ p p) in
+                    sym (λ i. with_post (length (a i)) (c i) v)),
                 (λ y k held. let m = held_of-before p.entry y v.held k held in let o = ok.held y m.0 m.1 in
-                m.2 ∙ (ap (λ (l : List Named). after l y p.entry) o.2 ∙ (sym (clauses_at-post f r.posts p r.legal legal' y)
-                ∙ (λ i. clauses_at (sym ok.base i) (after_it i) y)))),
+                    m.2 ∙ (ap (λ (l : List Named). after l y p.entry) o.2 ∙ (sym (clauses_at-post f r.posts p r.legal legal' y)
+                    ∙ (λ i. clauses_at (sym ok.base i) (after_it i) y)))),
               ),
         ),
       )

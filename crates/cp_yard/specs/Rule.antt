@@ -1,5 +1,5 @@
 -- What is true of a yard between any two steps: there is one journal, and its words, slots and seats stand for it.
-use Rattle.std.specs.Prelude.{◌≡◌, ◌≢◌, ◌⊎◌, ℕ, ◌+◌, ◌^◌, ◌<◌, ◌≤◌, true, Some, None, List, [], ◌∷◌, ◌++◌, length, slice_index, IsTrue}
+use Rattle.std.specs.Prelude.{◌≡◌, ◌≢◌, ◌⊎◌, ℕ, ◌+◌, ◌^◌, ◌<◌, ◌≤◌, true, Some, None, List, [], ◌++◌, length, slice_index, IsTrue}
 use Rattle.std.specs.List.{All, Contains}
 use mathlib.Core.Option.{some}
 use mathlib.Core.Option as maybe

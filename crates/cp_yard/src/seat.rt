@@ -26,7 +26,8 @@ impl Model for Seat {
     ghost view = { λ s. record { table = s.place.table_id; view = s.place.me.0 } };
 
     ghost invariant = { λ s.
-        (s.place.me.1 ≡ []) × (s.place.me.0.lives ≡ true) × (s.place.me.0.hand ≡ 0) × (s.place.me.0.number ≡ s.number) × (s.number ≡ 0 → s.place.me.0.made ≡ s.made) };
+        (s.place.me.1 ≡ []) × (s.place.me.0.lives ≡ true) × (s.place.me.0.hand ≡ 0)
+        × (s.place.me.0.number ≡ s.number) × (s.number ≡ 0 → s.place.me.0.made ≡ s.made) };
 }
 
 impl Seat {

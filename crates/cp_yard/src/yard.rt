@@ -71,7 +71,8 @@ impl Model for Yard {
     ghost view = { λ y. record { table = y.table.shared.table_id; base = base_of y.table.shared.key.value } };
 
     ghost invariant = { λ y.
-        (y.table.shared.table_id.words ≡ y.vars + 1) × (y.table.shared.table_id.slots ≡ y.vars + 1) × (y.cells.items ≡ []) × (y.vars ≤ y.cells.spare)
+        (y.table.shared.table_id.words ≡ y.vars + 1) × (y.table.shared.table_id.slots ≡ y.vars + 1)
+        × (y.cells.items ≡ []) × (y.vars ≤ y.cells.spare)
         × (y.vars ≡ y.table.shared.key.value.first.variables) × (y.vars ≤ 2000000) };
 }
 
@@ -133,9 +134,8 @@ impl Yard {
         ensures seat { seat.new.view ≡ joined seat.old.view other.view }
     {
         let place = other.into_place();
-        self.table
-            .shared
-            .join_seat::<TakeIn>(&mut seat.place, place);
+        let shared = &self.table.shared;
+        shared.join_seat::<TakeIn>(&mut seat.place, place);
     }
 
     /// One try of the lock of a variable. The cell has the variable's clauses after the journal of that moment.

@@ -10,7 +10,7 @@ use Rattle.cp_yard.specs.Views.{Base, SeatView, base_of, all_shares}
 use Rattle.cp_yard.specs.Rule.{IsCellOf, IsLegal, Account, IsAlone, clauses_at}
 use Rattle.cp_yard.proofs.Items.{same_book, same_cell}
 use Rattle.cp_yard.proofs.Turns.{base_of-book}
-use Rattle.cp_yard.proofs.Closing.{closes, AreAfter, AreAfter-push, AreAfter-none, AreAfter-to}
+use Rattle.cp_yard.proofs.Closing.{closes, AreAfter, AreAfter-push, AreAfter-to}
 use Rattle.cp_yard.proofs.yard.Yard.close.Goals as goal
 
 pub take_book-book-requires-clause-book : goal.take_book-book-requires-clause-book

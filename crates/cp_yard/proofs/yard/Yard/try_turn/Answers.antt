@@ -1,11 +1,10 @@
 use Rattle.std.proofs.Common.{◌≡◌, ℕ, ◌+◌, List, ◌∷◌, sym, refl, ap, ◌∙◌, inl, rules}
 use Rattle.atomic_table.specs.Table.{rest}
-use Rattle.cp_logic.specs.Journals.{Post}
 use Rattle.cp_book.specs.Views.{BookView}
 use Rattle.cp_yard.specs.declared.item.Item.{Item}
 use Rattle.cp_yard.specs.declared.item.Item.TheVariants.{OfTurn, Nothing}
-use Rattle.cp_yard.specs.Views.{Base, SeatView, base_of, held_of, reached_turn, with_turn, with_hand}
-use Rattle.cp_yard.specs.Rule.{clauses_at, IsBookOf}
+use Rattle.cp_yard.specs.Views.{SeatView, base_of, held_of, reached_turn, with_turn, with_hand}
+use Rattle.cp_yard.specs.Rule.{clauses_at}
 use Rattle.cp_yard.proofs.Steps.{return-allowed}
 use Rattle.cp_yard.proofs.Turns.{turn-allowed, base_of-book}
 use Rattle.cp_yard.proofs.Items.{same_item, same_book, in_hand}
