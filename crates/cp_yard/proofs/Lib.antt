@@ -1,0 +1,10 @@
+pub mod Lists
+pub mod Items
+pub mod Posted
+pub mod Frame
+pub mod Steps
+pub mod Turns
+pub mod Seats
+pub mod Closing
+pub mod Crossing
+pub mod Rows

@@ -1,0 +1,238 @@
+//! A yard over three variables, with ample memory: whose the locks and the turn are, and what the last seat leaves.
+ghost use Rattle.std.specs.Prelude.{◌≡◌, ℕ, ◌+◌, ◌≤◌, [], ◌∷◌, length, None, Some, IfOk, IfSome, IsTrue, IsFalse};
+ghost use Rattle.cp_logic.specs.Clauses.{clause_of};
+ghost use Rattle.cp_logic.specs.Entries.{is_look, variables_of};
+ghost use Rattle.cp_logic.specs.Views.{entry_of};
+ghost use Rattle.cp_yard.specs.Views.{base_of, unlocked};
+ghost use Rattle.cp_yard.specs.Rows.{HasThree, Fits, IsSameSeat};
+
+use crate::{Held, Receipt, Seat, Yard};
+use cp_book::Book;
+use cp_logic::{Choice, Clause, Entry, Formula, Lit, Named, NamedList, Rules};
+use cp_occ::Cells;
+use std::alloc::{AllocError, Global};
+use std::test::Fail;
+
+const RULES: Rules = Rules {
+    choice: Choice {
+        t: false,
+        s: false,
+        x: false,
+        b: false,
+        e: true,
+    },
+    bound: 0,
+    budget: 0,
+};
+
+fn pair(alloc: Global, first: Lit, second: Lit) -> Result<Clause, AllocError>
+    ensures { IfOk result (λ c. c ≡ clause_of (first ∷ second ∷ [])) }
+{
+    let lits = [first, second];
+    Clause::from_lits(alloc, lits.as_slice())
+}
+
+// Adds the clause under the next number, where that and its variables are in range.
+fn add(formula: &mut Formula, clause: Clause) -> Result<(), AllocError>
+    ensures { formula.new.formula.variables ≡ formula.old.formula.variables }
+{
+    if clause.is_within(formula.vars()) && formula.next() < 1_099_511_627_776 {
+        formula.push(clause)?;
+    }
+    Ok(())
+}
+
+// The clauses {1, 2} and {-1, 3}.
+fn formula_of(alloc: Global) -> Result<Formula, AllocError>
+    ensures { IfOk result (λ f. f.formula.variables ≡ 3) }
+{
+    let mut formula = Formula::new(alloc, 3, 1);
+    add(
+        &mut formula,
+        pair(alloc, Lit::new(1, true), Lit::new(2, true))?,
+    )?;
+    add(
+        &mut formula,
+        pair(alloc, Lit::new(1, false), Lit::new(3, true))?,
+    )?;
+    Ok(formula)
+}
+
+fn yard_of(alloc: Global) -> Result<(Yard, Seat), AllocError>
+    ensures table { IfOk result (λ r. r.1.table ≡ r.0.table) }
+    ensures base { IfOk result (λ r. r.1.view.base ≡ r.0.base) }
+    ensures variables { IfOk result (λ r. r.0.base.formula.variables ≡ 3) }
+    ensures number { IfOk result (λ r. (r.1.view.number ≡ 0) × (r.1.view.made ≡ 1)) }
+    ensures nothing { IfOk result (λ r. (r.1.view.held ≡ []) × (r.1.view.turn ≡ None)) }
+    ensures shares { IfOk result (λ r. (r.1.view.own.number ≡ 0) × (r.1.view.others ≡ [])) }
+{
+    let book = Book::new(alloc, formula_of(alloc)?, RULES)?;
+    let cells = Cells::of_formula(alloc, book.clauses())?;
+    Yard::new(alloc, book, cells)
+}
+
+fn one(alloc: Global, number: u64, first: Lit, second: Lit) -> Result<NamedList, AllocError>
+    ensures { IfOk result (λ l. l.items ≡ record { number = number; clause = clause_of (first ∷ second ∷ []) } ∷ []) }
+{
+    let mut list = NamedList::new(alloc);
+    let clause = pair(alloc, first, second)?;
+    list.push(Named { number, clause })?;
+    Ok(list)
+}
+
+// The elimination of 1, whose resolvent is {2, 3}.
+fn elimination(alloc: Global) -> Result<Entry, AllocError>
+    ensures variables { IfOk result (λ e. variables_of (entry_of e) ≡ 1 ∷ 2 ∷ 3 ∷ []) }
+    ensures commit { IfOk result (λ e. IsFalse (is_look (entry_of e))) }
+{
+    Ok(Entry::Eliminate {
+        var: 1,
+        pos: one(alloc, 1, Lit::new(1, true), Lit::new(2, true))?,
+        neg: one(alloc, 2, Lit::new(1, false), Lit::new(3, true))?,
+        new: one(alloc, 3, Lit::new(2, true), Lit::new(3, true))?,
+    })
+}
+
+// Tries the locks of 1, 2 and 3.
+fn lock_all(yard: &Yard, seat: &mut Seat) -> bool
+    requires table { seat.old.table ≡ yard.now.table }
+    requires variables { yard.now.base.formula.variables ≡ 3 }
+    requires nothing { seat.old.view.held ≡ [] }
+    ensures table { seat.new.table ≡ seat.old.table }
+    ensures same { IsSameSeat seat.old.view seat.new.view }
+    ensures turn { seat.new.view.turn ≡ seat.old.view.turn }
+    ensures all { IsTrue result → HasThree seat.new.view.held }
+{
+    let Ok(_first) = yard.try_lock(seat, 1) else {
+        return false;
+    };
+    let Ok(_second) = yard.try_lock(seat, 2) else {
+        return false;
+    };
+    yard.try_lock(seat, 3).is_ok()
+}
+
+// Gives the lock of the last cell back.
+fn unlock_last(yard: &Yard, seat: &mut Seat, cells: &mut Cells, var: u32) -> bool
+    requires table { seat.old.table ≡ yard.now.table }
+    requires variables { (1 ≤ var) × (var ≤ yard.now.base.formula.variables) }
+    requires cells { (length cells.old.items ≡ var) × Fits cells.old.items seat.old.view.held }
+    ensures table { seat.new.table ≡ seat.old.table }
+    ensures unlocked { IsTrue result → seat.new.view ≡ unlocked var seat.old.view }
+    ensures cells { IsTrue result → (length cells.new.items + 1 ≡ var) × Fits cells.new.items seat.new.view.held }
+{
+    let Some(cell) = cells.pop() else {
+        return false;
+    };
+    yard.unlock(seat, var, cell);
+    true
+}
+
+fn unlock_all(yard: &Yard, seat: &mut Seat, cells: &mut Cells) -> bool
+    requires table { seat.old.table ≡ yard.now.table }
+    requires variables { yard.now.base.formula.variables ≡ 3 }
+    requires cells { (length cells.old.items ≡ 3) × Fits cells.old.items seat.old.view.held }
+    requires held { HasThree seat.old.view.held }
+    ensures table { seat.new.table ≡ seat.old.table }
+    ensures unlocked { IsTrue result → seat.new.view ≡ unlocked 1 (unlocked 2 (unlocked 3 seat.old.view)) }
+{
+    unlock_last(yard, seat, cells, 3)
+        && unlock_last(yard, seat, cells, 2)
+        && unlock_last(yard, seat, cells, 1)
+}
+
+// Posts the entry, ends the turn, and gives the locks back with the cells of the book's clauses.
+fn post_and_unlock(
+    alloc: Global,
+    yard: &Yard,
+    seat: &mut Seat,
+    book: Book,
+    entry: Entry,
+) -> Result<Option<Receipt>, AllocError>
+    requires table { seat.old.table ≡ yard.now.table }
+    requires variables { (yard.now.base.formula.variables ≡ 3) × (seat.old.view.base ≡ yard.now.base) }
+    requires turn { (base_of book ≡ seat.old.view.base) × (seat.old.view.turn ≡ Some book.posts) }
+    requires held { HasThree seat.old.view.held }
+    requires entry { (variables_of (entry_of entry) ≡ 1 ∷ 2 ∷ 3 ∷ []) × IsFalse (is_look (entry_of entry)) }
+    ensures table { IfOk result (λ o. IfSome o (λ r. seat.new.table ≡ seat.old.table)) }
+    ensures same { IfOk result (λ o. IfSome o (λ r. IsSameSeat seat.old.view seat.new.view)) }
+    ensures nothing { IfOk result (λ o. IfSome o (λ r. (seat.new.view.held ≡ []) × (seat.new.view.turn ≡ None))) }
+{
+    let mut book = book;
+    book.prepare(&entry)?;
+    let Ok(_position) = book.post(seat.number(), 1, entry) else {
+        return Ok(None);
+    };
+    book.is_legal();
+    let mut cells = Cells::of_formula(alloc, book.clauses())?;
+    let receipt = yard.end_turn_with(seat, book);
+    if unlock_all(yard, seat, &mut cells) {
+        Ok(Some(receipt))
+    } else {
+        Ok(None)
+    }
+}
+
+#[test]
+fn the_turn_goes_from_seat_to_seat(rt: HostRuntime) -> Result<(), Fail> {
+    let (yard, mut zero) = yard_of(rt.alloc())?;
+    let mut first = yard.split(&mut zero);
+    let mut second = yard.split(&mut zero);
+    assert_eq!(rt; (first.number(), second.number()), (1, 2));
+    assert_eq!(rt; (zero.made(), yard.vars()), (3, 3));
+    if !lock_all(&yard, &mut first) {
+        panic!(rt; "the locks are free");
+    }
+    let Ok(book) = yard.try_turn(&mut first) else {
+        panic!(rt; "the turn is free");
+    };
+    let Err(met) = yard.try_turn(&mut second) else {
+        panic!(rt; "the first seat has the turn");
+    };
+    assert_eq!(rt; met, Held { by: 1 });
+    let entry = elimination(rt.alloc())?;
+    let Some(receipt) = post_and_unlock(rt.alloc(), &yard, &mut first, book, entry)? else {
+        panic!(rt; "the entry is legal");
+    };
+    assert_eq!(rt; receipt, Receipt { position: 0 });
+    let Ok(book) = yard.try_turn(&mut second) else {
+        panic!(rt; "the turn is free again");
+    };
+    assert_eq!(rt; book.journal().len(), 1);
+    yard.end_turn(&mut second, book);
+    yard.join(&mut zero, first);
+    yard.join(&mut zero, second);
+    let (ground, _record) = yard.close(zero);
+    assert_eq!(rt; (ground.book.journal().len(), ground.cells.len()), (1, 3));
+    Ok(())
+}
+
+#[test]
+fn locks_are_met_until_they_are_given_back(rt: HostRuntime) -> Result<(), Fail> {
+    let (yard, mut zero) = yard_of(rt.alloc())?;
+    let mut first = yard.split(&mut zero);
+    let mut second = yard.split(&mut zero);
+    let Ok(three) = yard.try_lock(&mut second, 3) else {
+        panic!(rt; "the lock of 3 is free");
+    };
+    let Err(met) = yard.try_lock(&mut first, 3) else {
+        panic!(rt; "the second seat holds 3");
+    };
+    assert_eq!(rt; met, Held { by: 2 });
+    let Ok(one) = yard.try_lock(&mut second, 1) else {
+        panic!(rt; "the lock of 1 is free");
+    };
+    assert_eq!(rt; (one.var(), one.len(), three.len()), (1, 2, 1));
+    yard.unlock(&mut second, 1, one);
+    yard.unlock(&mut second, 3, three);
+    let Ok(centre) = yard.try_lock(&mut first, 1) else {
+        panic!(rt; "the lock of 1 is free again");
+    };
+    assert_eq!(rt; centre.len(), 2);
+    yard.unlock(&mut first, 1, centre);
+    yard.join(&mut zero, first);
+    yard.join(&mut zero, second);
+    let (ground, _record) = yard.close(zero);
+    assert!(rt; ground.book.journal().is_empty());
+    Ok(())
+}
