@@ -13,12 +13,14 @@ import os
 import random
 import subprocess
 import sys
+import tempfile
 
 TOP = os.path.dirname(os.path.dirname(os.path.abspath(__file__)))
 ALL = ["simplify", "--workers", "0"]
 TS, TSX, SX, E, B = (ALL + ["--only", letters] for letters in ("ts", "tsx", "sx", "e", "b"))
 LISTS = [TS, TSX, SX, E, B, ALL]
-NOT_PLAIN = b"copro: input is not plain\n"
+EXTEND = ["extend", "--stack", "a"]
+STACK = b"p stack 1 3 3\n1 2 0\n-1 3 0\n2 3 0\n"
 BAD_OPTIONS = b"copro: bad options\n"
 
 # words, standard input, status, standard output
@@ -72,21 +74,42 @@ ANSWERS = [
     (ALL, b"p cnf 8 7\n1 0\n-1 2 0\n-2 -3 4 0\n3 -4 0\n2 5 0\n-5 6 0\n5 -6 0\n", 10, b"p cnf 8 0\n"),
 ]
 
-# words, standard input, status, standard error
+# The input's form: comments, blanks, clauses in any division into lines, and the line that ends the input.
+ANSWERS += [
+    (TS, b"c toy\np cnf 2 9\n 1 -2 0\n-1\n2 0\n%\n0\n", 0, b"p cnf 2 2\n1 -2 0\n-1 2 0\n"),
+    (TS, b"p cnf 2 2\r\n1 0 -2 0\r\n", 0, b"p cnf 2 2\n1 0\n-2 0\n"),
+    (TS, b"\n \nc\ncp x\np\tcnf 03  007 \n\n1\nc between 0\n\t-02\n0\n", 0, b"p cnf 3 1\n1 -2 0\n"),
+    (TS, b"p cnf 1 1\n1 0", 0, b"p cnf 1 1\n1 0\n"),
+    (TS, b"p cnf 1 1\n1 0\n%", 0, b"p cnf 1 1\n1 0\n"),
+    (TS, b"p cnf 1 99999999999999999999999\n1 0\n% 7 x\n", 0, b"p cnf 1 1\n1 0\n"),
+]
+
+# words, standard input, status, the line on standard error
 REFUSALS = [
-    (TS, b"", 65, NOT_PLAIN),
-    (TS, b"c a comment\np cnf 1 1\n1 0\n", 65, NOT_PLAIN),
-    (TS, b"p cnf 1 1\n1 0", 65, NOT_PLAIN),
-    (TS, b"p cnf 1 1\n1\n", 65, NOT_PLAIN),
-    (TS, b"p cnf 1 1\n1 0 \n", 65, NOT_PLAIN),
-    (TS, b"p cnf 1 1\n1  0\n", 65, NOT_PLAIN),
-    (TS, b"p cnf 1 1\n\t1 0\n", 65, NOT_PLAIN),
-    (TS, b"p cnf 1 1\n-0\n", 65, NOT_PLAIN),
-    (TS, b"p cnf 1 1\n1 0\n\n", 65, NOT_PLAIN),
-    (TS, b"p cnf -1 1\n1 0\n", 65, NOT_PLAIN),
-    (TS, b"p cnf 1 1\n2000001 0\n", 65, NOT_PLAIN),
-    (TS, b"p cnf 18446744073709551617 1\n1 0\n", 65, NOT_PLAIN),
-    (ALL, b"p cnf 1 1\n1 0 \n", 65, NOT_PLAIN),
+    (TS, b"", 65, b"copro: bad input at byte 0: NoHeader\n"),
+    (TS, b"c only a comment\n", 65, b"copro: bad input at byte 17: NoHeader\n"),
+    (TS, b"1 0\np cnf 1 1\n", 65, b"copro: bad input at byte 0: NoHeader\n"),
+    (TS, b"%\np cnf 1 1\n", 65, b"copro: bad input at byte 0: NoHeader\n"),
+    (TS, b"p\n", 65, b"copro: bad input at byte 1: BadHeader\n"),
+    (TS, b"p cnf 1\n1 0\n", 65, b"copro: bad input at byte 7: BadHeader\n"),
+    (TS, b"p dnf 1 1\n", 65, b"copro: bad input at byte 2: BadHeader\n"),
+    (TS, b"p cnf -1 1\n1 0\n", 65, b"copro: bad input at byte 6: BadHeader\n"),
+    (TS, b"p cnf 1 x\n", 65, b"copro: bad input at byte 8: BadHeader\n"),
+    (TS, b"p cnf 1 1 1\n", 65, b"copro: bad input at byte 10: BadHeader\n"),
+    (TS, b"p cnf 1 1\n1 x 0\n", 65, b"copro: bad input at byte 12: BadWord\n"),
+    (TS, b"p cnf 1 1\n-0\n", 65, b"copro: bad input at byte 10: BadWord\n"),
+    (TS, b"p cnf 1 1\n+1 0\n", 65, b"copro: bad input at byte 10: BadWord\n"),
+    (TS, b"p cnf 1 1\np 0\n", 65, b"copro: bad input at byte 10: BadWord\n"),
+    (TS, b"p cnf 1 1\n1 % 0\n", 65, b"copro: bad input at byte 12: BadWord\n"),
+    (TS, b"p cnf 2 1\n1 2", 65, b"copro: bad input at byte 13: OpenClause\n"),
+    (TS, b"p cnf 1 1\n1\n%\n", 65, b"copro: bad input at byte 12: OpenClause\n"),
+    (TS, b"p cnf 1 1\n2000001 0\n", 69, b"copro: cnf has too many variables at byte 10\n"),
+    (TS, b"p cnf 18446744073709551617 1\n1 0\n", 69, b"copro: cnf has too many variables at byte 6\n"),
+    (ALL, b"p cnf 1 1\n1 -99999999999999999999999 0\n", 69, b"copro: cnf has too many variables at byte 12\n"),
+    (EXTEND + ["more"], b"", 64, BAD_OPTIONS),
+    (["extend", "--stack=a"], b"", 64, BAD_OPTIONS),
+    (["extend", "--stack"], b"", 64, BAD_OPTIONS),
+    (["extend", "--stack", "b"], b"", 64, BAD_OPTIONS),
     (["simplify"], b"", 64, BAD_OPTIONS),
     (["simplify", "--workers"], b"", 64, BAD_OPTIONS),
     (["simplify", "--workers", "1"], b"", 64, BAD_OPTIONS),
@@ -108,21 +131,66 @@ REFUSALS = [
     (TS + ["more"], b"", 64, BAD_OPTIONS),
     (E + ["--budget", "1"], b"", 64, BAD_OPTIONS),
     ([], b"", 64, b"copro: no such command\n"),
-    (["extend"], b"", 64, b"copro: no such command\n"),
+    (["extend"], b"", 64, BAD_OPTIONS),
     (["generate"], b"", 64, b"copro: no such command\n"),
     (["Simplify"], b"", 64, b"copro: no such command\n"),
 ]
 
 
-def run(program, words, text):
-    done = subprocess.run([program] + words, input=text, stdout=subprocess.PIPE, stderr=subprocess.PIPE, timeout=120)
+# the stack's text, or None where there is no file; standard input, status, standard output, the line on standard error
+EXTENSIONS = [
+    (STACK, b"c x\ns SATISFIABLE\nv 3\nv 0\n", 10, b"s SATISFIABLE\nv 1 -2 3\nv 0\n", b""),
+    (STACK, b"v 0\n", 10, b"s SATISFIABLE\nv -1 2 -3\nv 0\n", b""),
+    (b"p stack 1 12 0\n", b"v 12 -11\nv 2 0 x", 10, b"s SATISFIABLE\nv -1 2 -3 -4 -5 -6 -7 -8 -9 -10\nv -11 12\nv 0\n", b""),
+    (b"p stack 1 0 0\n", b"v 5 0\n", 10, b"s SATISFIABLE\nv 0\n", b""),
+    (STACK, b"v 1 -1 0\n", 65, b"", b"copro: bad model at byte 4: Contradiction\n"),
+    (STACK, b"v 7 -7 0\n", 65, b"", b"copro: bad model at byte 4: Contradiction\n"),
+    (STACK, b"s UNSATISFIABLE\n", 65, b"", b"copro: no model\n"),
+    (STACK, b"s UNKNOWN", 65, b"", b"copro: no model\n"),
+    (STACK, b"s UNKNOWN x\n", 65, b"", b"copro: bad model at byte 10: BadStatus\n"),
+    (STACK, b"s SATISFIABLE\ns SATISFIABLE\nv 0\n", 65, b"", b"copro: bad model at byte 14: BadStatus\n"),
+    (STACK, b"v 1\n", 65, b"", b"copro: bad model at byte 4: NoEnd\n"),
+    (STACK, b"1 0\n", 65, b"", b"copro: bad model at byte 0: BadWord\n"),
+    (STACK, b"v 2000001 0\n", 69, b"", b"copro: model has too many variables at byte 2\n"),
+    (b"p stack 1 3 3\n1 2 0\n", b"v 0\n", 65, b"", b"copro: bad stack at byte 20: Count\n"),
+    (b"p stack 1 3 1\n1 2 0 3 0\n", b"v 0\n", 65, b"", b"copro: bad stack at byte 20: Count\n"),
+    (b"p stack 1 3 1\n4 0\n", b"v 0\n", 65, b"", b"copro: bad stack at byte 14: TooGreat\n"),
+    (b"p stack 1 3 1\n0\n", b"v 0\n", 65, b"", b"copro: bad stack at byte 14: EmptyPair\n"),
+    (b"p stack 1 3 1\n1 2", b"v 0\n", 65, b"", b"copro: bad stack at byte 17: OpenPair\n"),
+    (b"p stack 2 3 0\n", b"v 0\n", 65, b"", b"copro: bad stack at byte 8: BadHeader\n"),
+    (b"p stack 1 2000001 0\n", b"v 0\n", 69, b"", b"copro: stack has too many variables at byte 10\n"),
+    (b"", b"v x\n", 65, b"", b"copro: bad stack at byte 0: BadHeader\n"),
+    (None, b"v 0\n", 66, b"", b"copro: cannot open stack\n"),
+]
+
+
+def run(program, words, text, folder=None):
+    done = subprocess.run([program] + words, input=text, stdout=subprocess.PIPE, stderr=subprocess.PIPE, timeout=120, cwd=folder)
     return done.returncode, done.stdout, done.stderr
 
 
+def extension(program, stack, model):
+    """What `extend` answers of a stack and a model."""
+    with tempfile.TemporaryDirectory() as folder:
+        if stack is not None:
+            with open(os.path.join(folder, "a"), "wb") as file:
+                file.write(stack)
+        return run(program, EXTEND, model, folder)
+
+
 def formula_of(text):
-    """The number of variables and the clauses of a plain text, each as a set."""
-    lines = text.decode().splitlines()
-    clauses = [frozenset(map(int, line.split()[:-1])) for line in lines[1:]]
+    """The number of variables and the clauses of a text, each as a set."""
+    lines = [line for line in text.decode().splitlines() if line.split() and not line.lstrip().startswith("c")]
+    literals = []
+    for line in itertools.takewhile(lambda line: not line.lstrip().startswith("%"), lines[1:]):
+        literals += map(int, line.split())
+    clauses, clause = [], []
+    for literal in literals:
+        if literal == 0:
+            clauses.append(frozenset(clause))
+            clause = []
+        else:
+            clause.append(literal)
     return max([int(lines[0].split()[2])] + [abs(literal) for clause in clauses for literal in clause]), clauses
 
 
@@ -288,7 +356,13 @@ def main():
         if wrong:
             failed += 1
             print("FAILED %s on %r\n  %s\n  got    %r" % (" ".join(words), text[:300], wrong, got))
-    print("cases: %d passed, %d failed" % (len(cases) - failed, failed))
+    for stack, model, status, out, err in EXTENSIONS:
+        got = extension(program, stack, model)
+        if got != (status, out, err):
+            failed += 1
+            print("FAILED extend of %r by %r\n  wanted %r\n  got    %r" % (model, stack, (status, out, err), got))
+    total = len(cases) + len(EXTENSIONS)
+    print("cases: %d passed, %d failed" % (total - failed, failed))
     return 1 if failed else 0
 
 

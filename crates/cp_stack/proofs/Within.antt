@@ -66,6 +66,7 @@ stack-few limits bytes s e = go (nat_lt limits.bytes (length bytes)) (document l
         cut_err : (t : Bool) → cond t (Err x) (Err (TooLarge Bytes limit)) ≡ Ok s → ⊥
         cut_err true e = cc
         cut_err false e = cc
+
     go : (past : Bool) (r : Result Stack StackRefusal) → r ≡ document limits (lines_within limits.bytes bytes) → cond past (cut_at limits.bytes r) r ≡ Ok s → s.variables ≤ limits.variables
     go true r is e = absurd (cut limits.bytes r e)
     go false r is e = document-few limits (lines_within limits.bytes bytes) s (sym is ∙ e)

@@ -120,6 +120,7 @@ written-out posts variables pairs f Frozen e = cc
 -- a write failed since the roles were bound
 pub write-cause : (old p1 p2 new : Ports) (result : Result Held Refusal) (posts : List Post) (variables : ℕ) (pairs : List Pair) (f : Formula) (role : Role)
     → BoundSoFar simplify_bindings old p1 → AtRole Cnf (ReadsFormula result) p1 p2 → FailedToWrite (simplify_texts posts variables pairs f) role p2 new → WriteFailed simplify_bindings role old new
-write-cause old p1 p2 new result posts variables pairs f role bound r w =
-    (written-out posts variables pairs f role w.listed,
-    subst (λ n. Rose n (new role).write_faults) (kept (λ (p : Port). p.write_faults) (ReadsFormula result) r (λ h. ap (λ (p : Port). p.write_faults) h.only.rest) role ∙ bound.rest.write_faults role) w.rose)
+write-cause old p1 p2 new result posts variables pairs f role bound r w = (
+  written-out posts variables pairs f role w.listed,
+  subst (λ n. Rose n (new role).write_faults) (kept (λ (p : Port). p.write_faults) (ReadsFormula result) r (λ h. ap (λ (p : Port). p.write_faults) h.only.rest) role ∙ bound.rest.write_faults role) w.rose,
+)

@@ -7,6 +7,7 @@ ghost use Rattle.cp_io.specs.Memory.{memory_port};
 use super::*;
 use cp_io::{Bytes, FailAt, FailList, Input, Inputs, MemDesk, Role};
 use std::alloc::{AllocError, Global};
+use std::process::Abort;
 use std::test::Fail;
 
 const STACK: &[u8] = b"p stack 1 3 3\n1 2 0\n-1 3 0\n2 3 0\n";
@@ -91,8 +92,13 @@ fn models_are_completed(rt: HostRuntime) -> Result<(), Fail> {
         ),
     ];
     for (stack, model, full) in table {
-        let (status, line, written) =
-            ran(alloc, "extend --stack a", stack, model, FailList::new(alloc))?;
+        let (status, line, written) = ran(
+            alloc,
+            "extend --stack a",
+            stack,
+            model,
+            FailList::new(alloc),
+        )?;
         assert_eq!(rt; line.as_str(), "extended");
         assert_eq!(rt; status, 10);
         assert_eq!(rt; written.as_slice(), full);
@@ -100,28 +106,72 @@ fn models_are_completed(rt: HostRuntime) -> Result<(), Fail> {
     Ok(())
 }
 
-#[test]
-fn bad_inputs_are_refused(rt: HostRuntime) -> Result<(), Fail> {
-    let alloc = rt.alloc();
-    let table: [(&[u8], &[u8], u8, &str); 8] = [
-        (STACK, b"v 1 -1 0\n", 65, "bad model at byte 4: Contradiction"),
-        (STACK, b"s UNSATISFIABLE\n", 65, "no model"),
-        (STACK, b"v 1\n", 65, "bad model at byte 4: NoEnd"),
-        (STACK, b"v 2000001 0\n", 69, "model has too many variables at byte 2"),
-        (b"p stack 1 3 3\n1 2 0\n", MODEL, 65, "bad stack at byte 20: Count"),
-        (b"p stack 1 3 1\n4 0\n", MODEL, 65, "bad stack at byte 14: TooGreat"),
-        (b"p stack 1 2000001 0\n", MODEL, 69, "stack has too many variables at byte 10"),
-        // The stack is read first.
-        (b"", b"v x\n", 65, "bad stack at byte 0: BadHeader"),
-    ];
+fn assert_refused(
+    rt: &impl Abort,
+    alloc: Global,
+    table: &[(&[u8], &[u8], u8, &str)],
+) -> Result<(), Fail> {
     for (stack, model, want, told) in table {
-        let (status, line, written) =
-            ran(alloc, "extend --stack a", stack, model, FailList::new(alloc))?;
-        assert_eq!(rt; status, want);
-        assert_eq!(rt; line.as_str(), told);
+        let (status, line, written) = ran(
+            alloc,
+            "extend --stack a",
+            stack,
+            model,
+            FailList::new(alloc),
+        )?;
+        assert_eq!(rt; status, *want);
+        assert_eq!(rt; line.as_str(), *told);
         assert_eq!(rt; written.len(), 0);
     }
     Ok(())
+}
+
+#[test]
+fn bad_models_are_refused(rt: HostRuntime) -> Result<(), Fail> {
+    let table: [(&[u8], &[u8], u8, &str); 4] = [
+        (
+            STACK,
+            b"v 1 -1 0\n",
+            65,
+            "bad model at byte 4: Contradiction",
+        ),
+        (STACK, b"s UNSATISFIABLE\n", 65, "no model"),
+        (STACK, b"v 1\n", 65, "bad model at byte 4: NoEnd"),
+        (
+            STACK,
+            b"v 2000001 0\n",
+            69,
+            "model has too many variables at byte 2",
+        ),
+    ];
+    assert_refused(&rt, rt.alloc(), &table)
+}
+
+// The stack is read first.
+#[test]
+fn bad_stacks_are_refused(rt: HostRuntime) -> Result<(), Fail> {
+    let table: [(&[u8], &[u8], u8, &str); 4] = [
+        (
+            b"p stack 1 3 3\n1 2 0\n",
+            MODEL,
+            65,
+            "bad stack at byte 20: Count",
+        ),
+        (
+            b"p stack 1 3 1\n4 0\n",
+            MODEL,
+            65,
+            "bad stack at byte 14: TooGreat",
+        ),
+        (
+            b"p stack 1 2000001 0\n",
+            MODEL,
+            69,
+            "stack has too many variables at byte 10",
+        ),
+        (b"", b"v x\n", 65, "bad stack at byte 0: BadHeader"),
+    ];
+    assert_refused(&rt, rt.alloc(), &table)
 }
 
 #[test]
