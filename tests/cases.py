@@ -74,6 +74,17 @@ ANSWERS = [
     (ALL, b"p cnf 8 7\n1 0\n-1 2 0\n-2 -3 4 0\n3 -4 0\n2 5 0\n-5 6 0\n5 -6 0\n", 10, b"p cnf 8 0\n"),
 ]
 
+# A budget of commits.
+ANSWERS += [
+    (SX + ["--budget", budget], b"p cnf 3 3\n1 0\n-1 2 0\n-2 3 0\n", 0, left)
+    for budget, left in (
+        ("1", b"p cnf 3 3\n1 0\n-2 3 0\n2 0\n"),
+        ("2", b"p cnf 3 3\n1 0\n2 0\n3 0\n"),
+        ("3", b"p cnf 3 3\n1 0\n2 0\n3 0\n"),
+        ("76", b"p cnf 3 3\n1 0\n2 0\n3 0\n"),
+    )
+]
+
 # The input's form: comments, blanks, clauses in any division into lines, and the line that ends the input.
 ANSWERS += [
     (TS, b"c toy\np cnf 2 9\n 1 -2 0\n-1\n2 0\n%\n0\n", 0, b"p cnf 2 2\n1 -2 0\n-1 2 0\n"),
@@ -130,6 +141,8 @@ REFUSALS = [
     (ALL + ["--only", "tsxbe"], b"", 64, BAD_OPTIONS),
     (TS + ["more"], b"", 64, BAD_OPTIONS),
     (E + ["--budget", "1"], b"", 64, BAD_OPTIONS),
+    (SX + ["--budget", "4"], b"", 64, BAD_OPTIONS),
+    (SX + ["--budget"], b"", 64, BAD_OPTIONS),
     ([], b"", 64, b"copro: no such command\n"),
     (["extend"], b"", 64, BAD_OPTIONS),
     (["generate"], b"", 64, b"copro: no such command\n"),

@@ -18,7 +18,7 @@ use Rattle.cp_dimacs.specs.Cnf.{cnf_text}
 use Rattle.cp_drat.specs.Log.{log_of}
 use Rattle.cp_drat.specs.Text.{log_text}
 use Rattle.cp_stack.specs.Text.{stack_text}
-use Rattle.cp_sweep.specs.Swept.{IsSwept}
+use Rattle.cp_sweep.specs.Swept.{IsSwept, IsUnspent}
 use Rattle.cp_top.specs.declared.words.Options.{Options}
 use Rattle.cp_top.specs.declared.outcome.Refusal.{Refusal}
 use Rattle.cp_top.specs.Words.{options_of}
@@ -72,6 +72,7 @@ module _ (words : List (List ℕ)) (old p1 p2 new : Ports) (options : Options) (
     (bound : BoundSoFar simplify_bindings old p1)
     (r : AtRole Cnf (ReadsFormula (Ok f)) p1 p2)
     (swept : IsSwept f.formula options.rules posts left stopped)
+    (unspent : IsUnspent f.formula options.rules stopped)
     (same_variables : variables ≡ f.formula.variables) (same_pairs : pairs ≡ (folded f.formula posts).pairs) where
   pub simplifies : SimplifiesInput words old posts stopped
   simplifies = record {
@@ -80,7 +81,7 @@ module _ (words : List (List ℕ)) (old p1 p2 new : Ports) (options : Options) (
     formula = f.formula;
     input = subst (λ (o : Option (List ℕ)). FormulaReads o (Ok f.formula)) (bound.rest.left Cnf) r.here.answer.says;
     valid = r.here.answer.valid;
-    simplified = swept-simplified f.formula options.rules posts left stopped r.here.answer.valid swept;
+    simplified = swept-simplified f.formula options.rules posts left stopped r.here.answer.valid swept unspent;
   }
 
   -- nothing is written before the formula is simplified

@@ -15,7 +15,7 @@ use Rattle.cp_logic.proofs.Members.{any_from}
 use Rattle.cp_logic.proofs.Complete.{nothing-missed}
 use Rattle.cp_logic.proofs.JournalRuns.{journal-run, journal-satisfiable, journal-completed}
 use Rattle.cp_top.specs.Simplified.{IsSimplified, NothingApplies}
-use Rattle.cp_sweep.specs.Swept.{IsSwept}
+use Rattle.cp_sweep.specs.Swept.{IsSwept, IsUnspent}
 use Rattle.cp_drat.proofs.Accepted.{lemmas-rup, log-accepted}
 use Rattle.cp_drat.proofs.Ends.{log-end}
 
@@ -70,8 +70,8 @@ stop-fixpoint f rules posts h =
     let tests = tests_of_none (has_empty now.clauses) (is_spent rules (commits posts)) (list_any (is_applicable now rules) (range_with_len 1 now.variables)) h in
     nothing-applies now rules tests.0 tests.1
 
-pub swept-simplified : (f : Formula) (rules : Rules) (posts : List Post) (left : Formula) (stopped : Option Stop) → IsFormula f → IsSwept f rules posts left stopped → IsSimplified f rules posts stopped
-swept-simplified f rules posts left stopped v s = record {
+pub swept-simplified : (f : Formula) (rules : Rules) (posts : List Post) (left : Formula) (stopped : Option Stop) → IsFormula f → IsSwept f rules posts left stopped → IsUnspent f rules stopped → IsSimplified f rules posts stopped
+swept-simplified f rules posts left stopped v s unspent = record {
   legal = s.legal;
   run = journal-run f rules posts v s.legal;
   sweep = s.swept;
@@ -79,6 +79,7 @@ swept-simplified f rules posts left stopped v s = record {
   satisfiable = journal-satisfiable f rules posts v s.legal;
   stop = s.stop;
   fixpoint = λ none. stop-fixpoint f rules posts (sym s.stop ∙ none);
+  unspent = unspent;
   rup = lemmas-rup f rules posts v s.legal;
   accepted = log-accepted f rules posts v s.legal;
   ended = log-end f posts;

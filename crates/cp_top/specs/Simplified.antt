@@ -11,6 +11,7 @@ use Rattle.cp_logic.specs.Journals.{Post, IsLegalJournal, expansion, folded, sta
 use Rattle.cp_logic.specs.Sweeps.{IsSweep, stop_of}
 use Rattle.cp_drat.specs.Checks.{IsAccepted, IsRupLog}
 use Rattle.cp_drat.specs.Log.{has_end, log_of}
+use Rattle.cp_sweep.specs.Swept.{IsUnspent}
 
 -- no entry of a chosen technique is legal at any variable
 abbrev pub NothingApplies : Formula → Rules → Type 0
@@ -30,6 +31,8 @@ pub record IsSimplified (f : Formula) (rules : Rules) (posts : List Post) (stopp
   -- why the run stopped, and that nothing is left to do where it says None
   pub stop : stopped ≡ stop_of f rules posts
   pub fixpoint : stopped ≡ None → NothingApplies (folded f posts).formula rules
+  -- a budget of 0, or of so many commits as are enough, isn't spent
+  pub unspent : IsUnspent f rules stopped
   -- each lemma of the log is RUP where it stands, so a checker that starts with the formula accepts the log
   pub rup : IsRupLog (clauses_of f.clauses) (log_of posts)
   pub accepted : IsAccepted (clauses_of f.clauses) (log_of posts)
