@@ -10,6 +10,7 @@ use crate::{simplify, sweep};
 use cp_book::Book;
 use cp_logic::{Choice, Clause, Entry, Formula, Journal, Lit, Named, Rules, Stop};
 use cp_occ::Cells;
+use cp_yard::Ground;
 use std::alloc::{AllocError, Global};
 use std::fmt::Write;
 use std::process::Abort;
@@ -193,7 +194,7 @@ fn a_journal_is_gone_on_from(rt: HostRuntime) -> Result<(), Fail> {
     book.prepare(&entry)?;
     assert!(rt; book.post(1, 1, entry).is_ok());
     let cells = Cells::of_formula(rt.alloc(), book.clauses())?;
-    let swept = sweep(rt.alloc(), book, cells)?;
+    let swept = sweep(rt.alloc(), Ground { book, cells })?;
     let letters = letters_of(rt.alloc(), &swept.journal)?;
     assert_eq!(rt; letters.as_str(), "s4,2 t1 s4,3 ");
     assert_eq!(rt; (swept.formula.len(), swept.stopped), (1, None));

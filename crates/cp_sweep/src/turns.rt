@@ -65,12 +65,12 @@ pub fn simplify(alloc: Global, formula: Formula, rules: &Rules) -> Result<Swept,
 {
     let cells = Cells::of_formula(alloc, &formula)?;
     let book = Book::new(alloc, formula, *rules)?;
-    sweep(alloc, book, cells)
+    sweep_cells(alloc, book, cells)
 }
 
 /// Goes on from the book's posts until no entry of the techniques that its rules choose applies to what they leave, or the run has
 /// to stop, as `simplify` does. The cells are those of the book's current clauses.
-pub fn sweep(alloc: Global, book: Book, cells: Cells) -> Result<Swept, AllocError>
+pub(crate) fn sweep_cells(alloc: Global, book: Book, cells: Cells) -> Result<Swept, AllocError>
     requires cells { AreCellsOf (current book) cells.items }
     requires numbers { book.first.next ≤ number_limit }
     ensures swept { IfOk result (λ s. IsSweptAfter book.first book.rules book.posts s.journal.items s.formula.formula s.stopped) }

@@ -12,7 +12,7 @@ use Rattle.cp_sweep.specs.Cursor.{left_at, moved}
 use Rattle.cp_sweep.specs.Sweeping.{cursor_of}
 use Rattle.cp_sweep.proofs.UnderWay.{under_way-start, under_way-moved, under_way-next, under_way-stop, under_way-end, searches-fewer}
 use Rattle.cp_sweep.proofs.Turning.{turn-is, swept-closed, swept-unspent, stop_there, stop-named}
-use Rattle.cp_sweep.proofs.turns.sweep.Goals as goal
+use Rattle.cp_sweep.proofs.turns.sweep_cells.Goals as goal
 
 pub searches-init : goal.searches-init
 searches-init c =

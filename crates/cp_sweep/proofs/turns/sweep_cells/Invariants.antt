@@ -3,7 +3,7 @@ use Rattle.cp_occ.specs.Changes.{AreCellsOf}
 use Rattle.cp_sweep.specs.Cursor.{left_at}
 use Rattle.cp_sweep.specs.Sweeping.{cursor_of}
 use Rattle.cp_sweep.proofs.UnderWay.{IsUnderWay, searches_left}
-use Rattle.cp_sweep.proofs.turns.sweep.Given as goal
+use Rattle.cp_sweep.proofs.turns.sweep_cells.Given as goal
 
 abbrev pub invariant-searches : goal.invariant-searches
 invariant-searches l = record {
