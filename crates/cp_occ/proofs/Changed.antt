@@ -3,7 +3,7 @@ use Rattle.std.proofs.Common.{◌≡◌, ℕ, zero, suc, ◌+◌, ◌<◌, ◌�
 use Rattle.std.specs.Prelude.{◌==◌, ◌≢◌, ◌||◌, IsTrue}
 use Rattle.std.specs.List.{All, Contains, filter}
 use Rattle.std.proofs.Math.Seq.{take-suc, map-set_same}
-use Rattle.std.proofs.lemmas.Bool.{eq-eqb, ne_eqb, eqb-true, ltb-true, false≢true, cases_eq}
+use Rattle.std.proofs.lemmas.Bool.{eq-eqb, ne_eqb, eqb-true, false≢true, cases_eq}
 use Rattle.std.proofs.lemmas.List.{append-nil, map-append, length-append, take_all, get_or-map, get_or_default, length-set, get_or-set_same, get_or-set_other}
 use Rattle.std.proofs.lemmas.List.Elements.{All-append, All-contains, All-filter, Contains-append_right, Contains-append_cases, Contains-get_or, filter-append}
 use Rattle.cp_logic.specs.declared.named.Named.{Named}
@@ -12,7 +12,7 @@ use Rattle.cp_logic.specs.Clauses.{contains, has_variable, IsAscending}
 use Rattle.cp_logic.specs.Formulas.{numbers_of, occurrences, without_numbers}
 use Rattle.cp_logic.specs.Entries.{Entry, gone_clauses, new_clauses}
 use Rattle.cp_logic.specs.Locality.{after}
-use Rattle.cp_logic.proofs.Members.{any_member, all_at, contains-in, in_contains, in_here, in_later, in_cases, in_map, of_map, none_in, of_filter}
+use Rattle.cp_logic.proofs.Members.{any_member, contains-in, in_contains, in_here, in_later, in_cases, in_map, of_map, none_in, of_filter}
 use Rattle.cp_logic.proofs.Ascending.{below_others}
 use Rattle.cp_logic.proofs.Changes.{without_one, without_none, without_both}
 use Rattle.cp_occ.specs.Cells.{CellView, variables_after, variables_of, lists_of}

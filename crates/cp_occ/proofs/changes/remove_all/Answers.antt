@@ -1,8 +1,5 @@
-use Rattle.std.proofs.Common.{◌≡◌, get_or, take, sym, subst}
-use Rattle.std.specs.Prelude.{IsTrue}
-use Rattle.std.specs.List.{All}
+use Rattle.std.proofs.Common.{take, sym, subst}
 use Rattle.cp_logic.specs.declared.named.Named.{Named}
-use Rattle.cp_logic.specs.Clauses.{has_variable}
 use Rattle.cp_occ.specs.Cells.{variables_of}
 use Rattle.cp_occ.specs.Changes.{AreOver, IsWithout}
 use Rattle.cp_occ.proofs.Changed.{ascending-kept, over-kept, Each-start, Each-more, none-without, without-then, named-one}
