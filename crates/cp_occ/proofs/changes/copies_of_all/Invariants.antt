@@ -1,4 +1,4 @@
-use Rattle.std.proofs.Common.{◌≡◌, ℕ, List, map, take}
+use Rattle.std.proofs.Common.{◌≡◌, ℕ, map, take}
 use Rattle.cp_logic.specs.declared.named.Named.{Named}
 use Rattle.cp_occ.specs.Cells.{variables_after}
 use Rattle.cp_occ.proofs.changes.copies_of_all.Given as goal
