@@ -21,9 +21,10 @@ use std::marker::Model;
 // Cells with fewer clauses are looked through without buckets, which costs less there.
 const FEWEST: usize = 64;
 
-/// The clauses of a cell with their signatures, and their buckets where they are many, seen as the list of the clauses.
+/// The clauses of a cell with their signatures, and their buckets where they are many, seen as the list of the clauses. The finders
+/// of pairs read it, and it is made once for all of them.
 #[derive(Drop)]
-pub(crate) struct Lookup<'a> {
+pub struct Lookup<'a> {
     clauses: Vec<Signed<'a>>,
     buckets: Vec<Bucket<'a>>,
 }
@@ -41,7 +42,8 @@ impl<'a> Model for Lookup<'a> {
 }
 
 impl<'a> Lookup<'a> {
-    pub(crate) fn of_cell(alloc: Global, cell: &'a Cell) -> Result<Lookup<'a>, AllocError>
+    /// The clauses of the cell. The error comes only for want of memory.
+    pub fn of_cell(alloc: Global, cell: &'a Cell) -> Result<Lookup<'a>, AllocError>
         ensures { IfOk result (λ l. l ≡ cell.now.clauses) }
     {
         let clauses = signed(alloc, cell)?;
