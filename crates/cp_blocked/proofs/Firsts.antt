@@ -2,14 +2,14 @@
 use Rattle.std.proofs.Common.{◌≡◌, ℕ, ◌%◌, Bool, true, false, cond, ◌&&◌, List, map, Some, None, refl, sym, ◌∙◌, ap, subst, inl, inr, arith}
 use Rattle.std.specs.Prelude.{◌==◌}
 use Rattle.std.specs.Option.{option_map}
-use Rattle.std.specs.List.{Contains, find, list_any}
+use Rattle.std.specs.List.{Contains, find, list_all, list_any}
 use Rattle.std.proofs.lemmas.Bool.{and_parts, and_from, false≢true, eqb-true, eqb-false, eq-eqb, false_from_ne_true}
 use Rattle.std.proofs.lemmas.List.Elements.{All-contains}
 use Rattle.cp_logic.specs.declared.named.Named.{Named}
 use Rattle.cp_logic.specs.Literals.{negated, positive, negative, is_positive, variable_of}
-use Rattle.cp_logic.specs.Clauses.{contains, is_tautology, has_variable}
+use Rattle.cp_logic.specs.Clauses.{contains, is_tautology, has_variable, resolvent}
 use Rattle.cp_logic.specs.Entries.{Entry, Block, is_at}
-use Rattle.cp_logic.specs.Legality.{fits, has_tautology_at, blocks, first_of_kind}
+use Rattle.cp_logic.specs.Legality.{fits, has_tautology_at, blocks, clauses_with, first_of_kind, is_blocked}
 use Rattle.cp_logic.proofs.Members.{any_from, any_member, of_map, of_flat_map, contains-in, in_contains}
 use Rattle.cp_logic.proofs.LiteralFacts.{variable_of-positive, variable_of-negative, same_variable, negated-positive, negated-even, negated-odd}
 use Rattle.cp_logic.proofs.SetFacts.{tautology-from}
@@ -68,11 +68,29 @@ literal_at-negative x clause l e p =
     ap negated e ∙ negated-positive x ∙ sym (ap (λ b. cond b (positive x) (negative x)) (ap (contains clause) (sym e) ∙ p))
 
 -- the negation of a literal of the variable is the variable's other literal
-pub negated-is_negative : (l x : ℕ) → variable_of l ≡ x → is_positive l ≡ true → negative x ≡ negated l
+negated-is_negative : (l x : ℕ) → variable_of l ≡ x → is_positive l ≡ true → negative x ≡ negated l
 negated-is_negative l x v e = let p : l % 2 ≡ 0 = eqb-true (l % 2) 0 e in omega (arith, v, p) ∙ sym (negated-even l e)
 
-pub negated-is_positive : (l x : ℕ) → variable_of l ≡ x → is_positive l ≡ false → positive x ≡ negated l
+negated-is_positive : (l x : ℕ) → variable_of l ≡ x → is_positive l ≡ false → positive x ≡ negated l
 negated-is_positive l x v e = let p : l % 2 ≡ 0 → ⊥ = eqb-false (l % 2) 0 e in omega (arith, v) ∙ sym (negated-odd l e)
+
+-- the clauses with the variable and those with its negation, one after the other: those against the literal
+pub against : (x : ℕ) (cs : List Named) (l : ℕ) (pos neg : List Named) → variable_of l ≡ x → pos ≡ clauses_with cs (positive x) → neg ≡ clauses_with cs (negative x)
+    → cond (is_positive l) neg pos ≡ clauses_with cs (negated l)
+against x cs l pos neg v p n = go (is_positive l) refl
+  where
+    go : (b : Bool) → is_positive l ≡ b → cond b neg pos ≡ clauses_with cs (negated l)
+    go true e = n ∙ ap (clauses_with cs) (negated-is_negative l x v e)
+    go false e = p ∙ ap (clauses_with cs) (negated-is_positive l x v e)
+
+-- so the test with those is the test with the cell
+pub blocked-against : (x : ℕ) (cs : List Named) (clause : List ℕ) (l : ℕ) (pos neg others : List Named) (b : Bool) → l ≡ literal_at x clause
+    → pos ≡ clauses_with cs (positive x) → neg ≡ clauses_with cs (negative x) → others ≡ cond (is_positive l) neg pos
+    → b ≡ list_all (λ (d : Named). is_tautology (resolvent l clause d.clause)) others → is_blocked cs clause (literal_at x clause) ≡ b
+blocked-against x cs clause l pos neg others b e p n o t =
+    ap (is_blocked cs clause) (sym e)
+    ∙ ap (list_all (λ (d : Named). is_tautology (resolvent l clause d.clause))) (sym (o ∙ against x cs l pos neg (ap variable_of e ∙ literal_at-variable x clause) p n))
+    ∙ sym t
 
 -- ---- blocked clauses
 

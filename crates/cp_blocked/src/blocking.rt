@@ -11,24 +11,25 @@
 //! them all. The answer is the least clause that is blocked, so clauses are looked at by ascending numbers, and no order is learnt.
 //! A clause has one literal of the variable to be blocked on, for a cell with a tautology is left alone: the tautology goes first, by
 //! an entry of its own. Nothing is marked, since the literals of clauses ascend, and one pass over two clauses tells whether their
-//! resolvent is a tautology.
-ghost use Rattle.std.specs.Prelude.{◌≡◌, ◌≤◌, IfOk};
-ghost use Rattle.std.specs.List.{list_any};
+//! resolvent is a tautology. The clauses of each sign are listed once, so that no clause is passed over again for each other one.
+ghost use Rattle.std.specs.Prelude.{◌≡◌, ◌≤◌, IfOk, if◌then◌else◌};
+ghost use Rattle.std.specs.List.{list_all, list_any};
 ghost use Rattle.std.specs.Option.{option_map};
-ghost use Rattle.cp_logic.specs.Literals.{negated, variable_of};
-ghost use Rattle.cp_logic.specs.Clauses.{is_tautology};
-ghost use Rattle.cp_logic.specs.Legality.{blocks, clauses_with, first_of_kind, is_blocked};
+ghost use Rattle.cp_logic.specs.Literals.{is_positive};
+ghost use Rattle.cp_logic.specs.Clauses.{is_tautology, resolvent};
+ghost use Rattle.cp_logic.specs.Legality.{blocks, first_of_kind};
 ghost use Rattle.cp_logic.specs.Views.{entry_of};
 ghost use Rattle.cp_blocked.specs.Finds.{literal_at};
 
+use crate::sides::{Lent, gathered};
 use cp_logic::{Clause, Entry, Lit, Named};
-use cp_occ::{Cell, LiteralIter};
+use cp_occ::Cell;
 use std::alloc::{AllocError, Global};
 
 /// The clause of the least number that is blocked on its literal of the cell's variable, with that literal, or `None` where there is
 /// none. Where a clause of the cell is a tautology, none counts as blocked.
 ///
-/// The error comes only for want of memory for the copy of the clause.
+/// The error comes only for want of memory.
 pub fn first_blocked(alloc: Global, cell: &Cell) -> Result<Option<Entry>, AllocError>
     ensures { IfOk result (λ o. option_map entry_of o ≡ first_of_kind cell.now.variable cell.now.clauses (blocks cell.now.clauses)) }
 {
@@ -36,9 +37,12 @@ pub fn first_blocked(alloc: Global, cell: &Cell) -> Result<Option<Entry>, AllocE
     if has_tautology(cell) {
         return Ok(None);
     }
+    let pos = gathered(alloc, cell.pos())?;
+    let neg = gathered(alloc, cell.neg())?;
     for (number, clause) in cell.iter() {
         let lit = literal_at(clause, var);
-        if is_blocked(cell, clause, lit) {
+        let others = clauses_against(&pos, &neg, lit);
+        if is_blocked(clause, others, lit) {
             let clause = clause.again()?;
             let gone = Named { number, clause };
             return Ok(Some(Entry::Block { gone, lit }));
@@ -73,27 +77,21 @@ fn literal_at(clause: &Clause, var: u32) -> Lit
     }
 }
 
-// Whether each resolvent of the clause with a clause of the cell, on the literal of its variable, is a tautology.
-fn is_blocked(cell: &Cell, clause: &Clause, lit: Lit) -> bool
-    requires { variable_of lit ≡ cell.now.variable }
-    ensures { result ≡ is_blocked cell.now.clauses clause.now lit }
+// Of the clauses with the variable and those with its negation, those with the negation of the literal.
+fn clauses_against<'l, 'a>(pos: &'l [Lent<'a>], neg: &'l [Lent<'a>], lit: Lit) -> &'l [Lent<'a>]
+    ensures { result.now ≡ (if is_positive lit then neg.now else pos.now) }
 {
-    for (_, other) in clauses_against(cell, lit) {
-        if !clause.resolves_to_tautology(other, lit) {
+    if lit.is_positive() { neg } else { pos }
+}
+
+// Whether each resolvent of the clause with one of the others, on the literal, is a tautology.
+fn is_blocked(clause: &Clause, others: &[Lent<'_>], lit: Lit) -> bool
+    ensures { result ≡ list_all (λ d. is_tautology (resolvent lit clause.now d.clause)) others.now }
+{
+    for other in others {
+        if !clause.resolves_to_tautology(other.clause(), lit) {
             return false;
         }
     }
     true
-}
-
-// The clauses of the cell that have the negation of the literal.
-fn clauses_against<'a>(cell: &'a Cell, lit: Lit) -> LiteralIter<'a>
-    requires { variable_of lit ≡ cell.now.variable }
-    ensures { result ≡ clauses_with cell.now.clauses (negated lit) }
-{
-    if lit.is_positive() {
-        cell.neg()
-    } else {
-        cell.pos()
-    }
 }

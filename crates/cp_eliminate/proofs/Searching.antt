@@ -1,5 +1,5 @@
 -- The first entry over all kinds, as the search tries them in turn.
-use Rattle.std.proofs.Common.{◌≡◌, ℕ, List, Option, Some, None, sym, ◌∙◌, ap}
+use Rattle.std.proofs.Common.{◌≡◌, ℕ, List, Option, Some, None, refl, sym, ◌∙◌, ap}
 use Rattle.std.specs.Option.{option_or}
 use Rattle.cp_logic.specs.declared.named.Named.{Named}
 use Rattle.cp_logic.specs.declared.settings.Rules.{Rules}
@@ -16,6 +16,11 @@ here a o p x e s = ap (λ q. option_or q p) s ∙ sym e
 -- and else the second
 later : {X : Type 0} (a o p : Option X) → a ≡ option_or o p → None ≡ o → a ≡ p
 later a o p e n = e ∙ ap (λ q. option_or q p) (sym n)
+
+-- the second and the third of three are told as one
+grouped : {X : Type 0} (o p q : Option X) → option_or (option_or o p) q ≡ option_or o (option_or p q)
+grouped None p q = refl
+grouped (Some x) p q = refl
 
 module _ (cs : List Named) (rules : Rules) (next x : ℕ) where
   -- the first entry of each kind, where the kind is chosen
@@ -45,24 +50,20 @@ module _ (cs : List Named) (rules : Rules) (next x : ℕ) where
   after-taut : None ≡ taut → first_in cs rules next x ≡ option_or subsumption (option_or strengthening (option_or blocked eliminated))
   after-taut t = later (first_in cs rules next x) taut (option_or subsumption (option_or strengthening (option_or blocked eliminated))) first_in-five t
 
-  -- then a subsumption
-  pub is-subsumption : (d : Entry) → None ≡ taut → Some d ≡ subsumption → Some d ≡ first_in cs rules next x
-  is-subsumption d t s = here (first_in cs rules next x) subsumption (option_or strengthening (option_or blocked eliminated)) d (after-taut t) s
+  two : None ≡ taut → first_in cs rules next x ≡ option_or (option_or subsumption strengthening) (option_or blocked eliminated)
+  two t = after-taut t ∙ sym (grouped subsumption strengthening (option_or blocked eliminated))
 
-  after-subsumption : None ≡ taut → None ≡ subsumption → first_in cs rules next x ≡ option_or strengthening (option_or blocked eliminated)
-  after-subsumption t u = later (first_in cs rules next x) subsumption (option_or strengthening (option_or blocked eliminated)) (after-taut t) u
+  -- then a subsumption or a strengthening
+  pub is-of-two : (d : Entry) → None ≡ taut → Some d ≡ option_or subsumption strengthening → Some d ≡ first_in cs rules next x
+  is-of-two d t s = here (first_in cs rules next x) (option_or subsumption strengthening) (option_or blocked eliminated) d (two t) s
 
-  -- then a strengthening
-  pub is-strengthening : (d : Entry) → None ≡ taut → None ≡ subsumption → Some d ≡ strengthening → Some d ≡ first_in cs rules next x
-  is-strengthening d t u s = here (first_in cs rules next x) strengthening (option_or blocked eliminated) d (after-subsumption t u) s
-
-  after-strengthening : None ≡ taut → None ≡ subsumption → None ≡ strengthening → first_in cs rules next x ≡ option_or blocked eliminated
-  after-strengthening t u k = later (first_in cs rules next x) strengthening (option_or blocked eliminated) (after-subsumption t u) k
+  after-two : None ≡ taut → None ≡ option_or subsumption strengthening → first_in cs rules next x ≡ option_or blocked eliminated
+  after-two t u = later (first_in cs rules next x) (option_or subsumption strengthening) (option_or blocked eliminated) (two t) u
 
   -- then a blocked clause
-  pub is-blocked : (d : Entry) → None ≡ taut → None ≡ subsumption → None ≡ strengthening → Some d ≡ blocked → Some d ≡ first_in cs rules next x
-  is-blocked d t u k s = here (first_in cs rules next x) blocked eliminated d (after-strengthening t u k) s
+  pub is-blocked : (d : Entry) → None ≡ taut → None ≡ option_or subsumption strengthening → Some d ≡ blocked → Some d ≡ first_in cs rules next x
+  is-blocked d t u s = here (first_in cs rules next x) blocked eliminated d (after-two t u) s
 
   -- and last the elimination
-  pub after-blocked : None ≡ taut → None ≡ subsumption → None ≡ strengthening → None ≡ blocked → eliminated ≡ first_in cs rules next x
-  after-blocked t u k b = sym (later (first_in cs rules next x) blocked eliminated (after-strengthening t u k) b)
+  pub after-blocked : None ≡ taut → None ≡ option_or subsumption strengthening → None ≡ blocked → eliminated ≡ first_in cs rules next x
+  after-blocked t u b = sym (later (first_in cs rules next x) blocked eliminated (after-two t u) b)

@@ -5,7 +5,7 @@
 //! what adds some, and elimination, which costs most, comes last, when the clauses are as few and short as the others make them.
 
 ghost use Rattle.std.specs.Prelude.{◌≡◌, ◌≤◌, ◌^◌, IfOk};
-ghost use Rattle.std.specs.Option.{option_map};
+ghost use Rattle.std.specs.Option.{option_map, option_or};
 ghost use Rattle.cp_logic.specs.Legality.{first_in, tauts, subsumptions, strengthenings, blocks, first_of_kind};
 ghost use Rattle.cp_logic.specs.Views.{entry_of};
 ghost use Rattle.cp_eliminate.specs.Chosen.{where_chosen};
@@ -13,7 +13,7 @@ ghost use Rattle.cp_eliminate.specs.Eliminating.{elimination_within};
 
 use crate::elimination::try_eliminate;
 use cp_blocked::first_blocked;
-use cp_find::{first_strengthened, first_subsumed, first_taut};
+use cp_find::{Lookup, first_taut, strengthened_in, subsumed_in};
 use cp_logic::{Entry, Rules};
 use cp_occ::Cell;
 use std::alloc::{AllocError, Global};
@@ -34,10 +34,7 @@ pub fn search(
     if let Some(entry) = chosen_taut(alloc, cell, rules, next)? {
         return Ok(Some(entry));
     }
-    if let Some(entry) = chosen_subsumption(alloc, cell, rules, next)? {
-        return Ok(Some(entry));
-    }
-    if let Some(entry) = chosen_strengthening(alloc, cell, rules, next)? {
+    if let Some(entry) = chosen_of_two(alloc, cell, rules, next)? {
         return Ok(Some(entry));
     }
     if let Some(entry) = chosen_blocked(alloc, cell, rules)? {
@@ -61,34 +58,57 @@ fn chosen_taut(
     first_taut(alloc, cell, next)
 }
 
-fn chosen_subsumption(
+// A subsumption, or else a strengthening. Both look at the same pairs of clauses, so the cell is made ready once.
+fn chosen_of_two(
     alloc: Global,
     cell: &Cell,
     rules: &Rules,
     next: u64,
 ) -> Result<Option<Entry>, AllocError>
     requires { next ≤ 2 ^ 40 }
+    ensures { IfOk result (λ found. option_map entry_of found ≡ option_or
+        (where_chosen rules.now.choice.s (first_of_kind cell.now.variable cell.now.clauses (subsumptions cell.now.clauses)))
+        (where_chosen rules.now.choice.x (first_of_kind cell.now.variable cell.now.clauses (strengthenings cell.now.clauses next)))) }
+{
+    if !rules.choice.s && !rules.choice.x {
+        return Ok(None);
+    }
+    let lookup = Lookup::of_cell(alloc, cell)?;
+    if let Some(entry) = chosen_subsumption(cell, &lookup, rules)? {
+        return Ok(Some(entry));
+    }
+    chosen_strengthening(alloc, cell, &lookup, rules, next)
+}
+
+fn chosen_subsumption(
+    cell: &Cell,
+    lookup: &Lookup<'_>,
+    rules: &Rules,
+) -> Result<Option<Entry>, AllocError>
+    requires { lookup.now ≡ cell.now.clauses }
     ensures { IfOk result (λ found. option_map entry_of found ≡ where_chosen rules.now.choice.s (first_of_kind cell.now.variable cell.now.clauses (subsumptions cell.now.clauses))) }
 {
     if !rules.choice.s {
         return Ok(None);
     }
-    first_subsumed(alloc, cell, next)
+    subsumed_in(cell, lookup)
 }
 
 fn chosen_strengthening(
     alloc: Global,
     cell: &Cell,
+    lookup: &Lookup<'_>,
     rules: &Rules,
     next: u64,
 ) -> Result<Option<Entry>, AllocError>
-    requires { next ≤ 2 ^ 40 }
+    requires numbers { next ≤ 2 ^ 40 }
+    requires clauses { lookup.now ≡ cell.now.clauses }
     ensures { IfOk result (λ found. option_map entry_of found ≡ where_chosen rules.now.choice.x (first_of_kind cell.now.variable cell.now.clauses (strengthenings cell.now.clauses next))) }
 {
     if !rules.choice.x {
         return Ok(None);
     }
-    first_strengthened(alloc, cell, next)
+    strengthened_in(alloc, cell, lookup, next)
 }
 
 fn chosen_blocked(alloc: Global, cell: &Cell, rules: &Rules) -> Result<Option<Entry>, AllocError>

@@ -5,3 +5,4 @@ pub mod Passes
 pub mod Searches
 pub mod Candidates
 pub mod Least
+pub mod Searched

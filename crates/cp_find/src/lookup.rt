@@ -3,7 +3,8 @@
 //! SatELite and CaDiCaL look for the clauses that a clause subsumes through the occurrences of its literal that occurs least, and so
 //! does this, within one cell: the variable of the cell is in all of its clauses, but most of its other literals are in few. There
 //! are no tables as long as the formula's list of literals, since cells are searched one at a time and most are short. So literals
-//! share buckets, about as many as there are clauses, and a clause stands in the bucket of each of its literals.
+//! share buckets, and a clause stands in the bucket of each of its literals. A bucket is made for a few clauses, not for one: each
+//! takes memory of its own, and a few signatures are compared in less time than that takes.
 ghost use Rattle.std.specs.Prelude.{◌≡◌, ◌<◌, ◌%◌, [], length, IfOk, OnOk, ℕ, List, ◌++◌, slice_index_or, ◌∷◌};
 ghost use Rattle.std.specs.List.{find};
 ghost use Rattle.std.specs.Option.{option_map};
@@ -18,12 +19,20 @@ use cp_occ::Cell;
 use std::alloc::{AllocError, Global};
 use std::marker::Model;
 
-// Cells with fewer clauses are looked through without buckets, which costs less there.
-const FEWEST: usize = 64;
+// So many clauses stand in a bucket on average.
+const PER_BUCKET: usize = 8;
 
-/// The clauses of a cell with their signatures, and their buckets where they are many, seen as the list of the clauses.
+// A bucket has room for so many clauses before it grows.
+const ROOM: usize = 12;
+
+// Where there are at most so many times as many clauses as literals in one of them, all pairs are compared, which costs less there
+// than to make buckets.
+const MOST_TIMES: usize = 8;
+
+/// The clauses of a cell with their signatures, and their buckets where they are many, seen as the list of the clauses. The finders
+/// of pairs read it, and it is made once for all of them.
 #[derive(Drop)]
-pub(crate) struct Lookup<'a> {
+pub struct Lookup<'a> {
     clauses: Vec<Signed<'a>>,
     buckets: Vec<Bucket<'a>>,
 }
@@ -41,15 +50,12 @@ impl<'a> Model for Lookup<'a> {
 }
 
 impl<'a> Lookup<'a> {
-    pub(crate) fn of_cell(alloc: Global, cell: &'a Cell) -> Result<Lookup<'a>, AllocError>
+    /// The clauses of the cell. The error comes only for want of memory.
+    pub fn of_cell(alloc: Global, cell: &'a Cell) -> Result<Lookup<'a>, AllocError>
         ensures { IfOk result (λ l. l ≡ cell.now.clauses) }
     {
         let clauses = signed(alloc, cell)?;
-        let count = if clauses.len() < FEWEST {
-            0
-        } else {
-            clauses.len()
-        };
+        let count = bucket_count(clauses.len(), literal_count(clauses.as_slice()));
         let buckets = filled_buckets(alloc, clauses.as_slice(), count)?;
         Ok(Lookup { clauses, buckets })
     }
@@ -95,12 +101,11 @@ impl<'a> Model for Bucket<'a> {
 }
 
 impl<'a> Bucket<'a> {
-    fn new(alloc: Global) -> Bucket<'a>
-        ensures { result ≡ [] }
+    fn new(alloc: Global) -> Result<Bucket<'a>, AllocError>
+        ensures { IfOk result (λ b. b ≡ []) }
     {
-        Bucket {
-            clauses: Vec::new(alloc),
-        }
+        let clauses = Vec::with_capacity(alloc, ROOM)?;
+        Ok(Bucket { clauses })
     }
 
     fn as_slice(&self) -> &[Signed<'a>]
@@ -124,6 +129,23 @@ fn place(lit: Lit, count: usize) -> usize
     ensures within { result < count }
 {
     lit.code() as usize % count
+}
+
+// How many buckets to make for so many clauses of so many literals together.
+fn bucket_count(clauses: usize, literals: usize) -> usize {
+    if clauses / MOST_TIMES <= literals / clauses.max(1) {
+        return 0;
+    }
+    literals / PER_BUCKET
+}
+
+// How many literals the clauses have together.
+fn literal_count(clauses: &[Signed<'_>]) -> usize {
+    let mut count = 0_usize;
+    for clause in clauses {
+        count = count.saturating_add(clause.clause().lits().len());
+    }
+    count
 }
 
 // The clauses of the cell with their signatures.
@@ -161,7 +183,7 @@ fn empty_buckets<'a>(alloc: Global, count: usize) -> Result<Vec<Bucket<'a>>, All
 {
     let mut buckets = Vec::with_capacity(alloc, count)?;
     for _i in 0..count {
-        buckets.push(Bucket::new(alloc))?;
+        buckets.push(Bucket::new(alloc)?)?;
     }
     Ok(buckets)
 }

@@ -36,8 +36,22 @@ pub fn first_strengthened(
     requires { next ≤ 2 ^ 40 }
     ensures { IfOk result (λ o. option_map entry_of o ≡ first_of_kind cell.now.variable cell.now.clauses (strengthenings cell.now.clauses next)) }
 {
-    let var = cell.var();
     let lookup = Lookup::of_cell(alloc, cell)?;
+    strengthened_in(alloc, cell, &lookup, next)
+}
+
+/// The same as `first_strengthened`, with a lookup of the cell's clauses at hand.
+pub fn strengthened_in(
+    alloc: Global,
+    cell: &Cell,
+    lookup: &Lookup<'_>,
+    next: u64,
+) -> Result<Option<Entry>, AllocError>
+    requires numbers { next ≤ 2 ^ 40 }
+    requires clauses { lookup.now ≡ cell.now.clauses }
+    ensures { IfOk result (λ o. option_map entry_of o ≡ first_of_kind cell.now.variable cell.now.clauses (strengthenings cell.now.clauses next)) }
+{
+    let var = cell.var();
     let mut wanted = Vec::new(alloc);
     for (number, by) in cell.iter() {
         let Some(lit) = struck(by, var) else {

@@ -30,9 +30,17 @@ pub fn first_subsumed(alloc: Global, cell: &Cell, next: u64) -> Result<Option<En
     requires { next ≤ 2 ^ 40 }
     ensures { IfOk result (λ o. option_map entry_of o ≡ first_of_kind cell.now.variable cell.now.clauses (subsumptions cell.now.clauses)) }
 {
+    let lookup = Lookup::of_cell(alloc, cell)?;
+    subsumed_in(cell, &lookup)
+}
+
+/// The same as `first_subsumed`, with a lookup of the cell's clauses at hand.
+pub fn subsumed_in(cell: &Cell, lookup: &Lookup<'_>) -> Result<Option<Entry>, AllocError>
+    requires { lookup.now ≡ cell.now.clauses }
+    ensures { IfOk result (λ o. option_map entry_of o ≡ first_of_kind cell.now.variable cell.now.clauses (subsumptions cell.now.clauses)) }
+{
     // It says of the cell that each clause has the variable.
     let _ = cell.var();
-    let lookup = Lookup::of_cell(alloc, cell)?;
     for (number, by) in cell.iter() {
         let wanted = Wanted::new(number, by.lits());
         if let Some((other, gone)) = lookup.first(&wanted) {

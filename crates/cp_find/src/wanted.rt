@@ -2,13 +2,16 @@
 ghost use Rattle.std.specs.Prelude.{◌≡◌};
 ghost use Rattle.std.specs.List.{find};
 ghost use Rattle.std.specs.Option.{option_map};
-ghost use Rattle.cp_logic.specs.Clauses.{is_subset, IsAscending};
+ghost use Rattle.cp_logic.specs.Clauses.{contains, is_subset, IsAscending};
 ghost use Rattle.cp_logic.specs.Items.{named_item};
 ghost use Rattle.cp_find.specs.Finds.{subsumes};
 
 use crate::signatures::signature;
 use cp_logic::{Clause, Lit};
 use std::marker::Model;
+
+// Among so many times as many literals, a search for each of the wanted ones costs more than a pass.
+const MOST_TIMES_LONGER: usize = 4;
 
 /// Literals that are looked for in clauses of other numbers than the one given, seen as the numbered clause of them.
 #[derive(Drop)]
@@ -125,8 +128,43 @@ pub(crate) fn first_met<'a>(
     None
 }
 
-// Whether each of the wanted literals is among the others. One pass over both.
+// Whether each of the wanted literals is among the others. Where these are many more, each is searched on its own: a pass would
+// read most of a long clause to find that a short one is not in it.
 fn is_within(wanted: &[Lit], others: &[Lit]) -> bool
+    requires ascending { IsAscending wanted.now }
+    requires others_ascending { IsAscending others.now }
+    ensures { result ≡ is_subset wanted.now others.now }
+{
+    if others.len() / MOST_TIMES_LONGER > wanted.len() {
+        are_found(wanted, others)
+    } else {
+        is_passed(wanted, others)
+    }
+}
+
+// Whether a search among the others finds each of the literals.
+fn are_found(wanted: &[Lit], others: &[Lit]) -> bool
+    requires { IsAscending others.now }
+    ensures { result ≡ is_subset wanted.now others.now }
+{
+    for lit in wanted {
+        if !is_found(*lit, others) {
+            return false;
+        }
+    }
+    true
+}
+
+// Whether the literal is one of the others.
+fn is_found(lit: Lit, others: &[Lit]) -> bool
+    requires { IsAscending others.now }
+    ensures { result ≡ contains others.now lit }
+{
+    others.binary_search(&lit).is_ok()
+}
+
+// The same as `is_within`, by one pass over both.
+fn is_passed(wanted: &[Lit], others: &[Lit]) -> bool
     requires ascending { IsAscending wanted.now }
     requires others_ascending { IsAscending others.now }
     ensures { result ≡ is_subset wanted.now others.now }

@@ -5,7 +5,7 @@ use Rattle.cp_logic.specs.declared.named.Named.{Named}
 use Rattle.cp_logic.specs.Entries.{Block}
 use Rattle.cp_logic.specs.Legality.{is_blocked}
 use Rattle.cp_blocked.specs.Finds.{literal_at, is_blocked_at}
-use Rattle.cp_blocked.proofs.Firsts.{first-blocked, first-none, cell-have}
+use Rattle.cp_blocked.proofs.Firsts.{blocked-against, first-blocked, first-none, cell-have}
 use Rattle.cp_blocked.proofs.Scans.{find-here, find-later}
 use Rattle.cp_blocked.proofs.blocking.first_blocked.Goals as goal
 
@@ -24,7 +24,8 @@ returns-then-is_blocked c =
     ∙ sym (first-blocked cell.variable cell.clauses (cell-have cell c.var-var.ensures.valid) (sym c.has_tautology.ensures ∙ c.if-has_tautology.false)
     ∙ ap (option_map (λ (k : Named). Block k (literal_at cell.variable k.clause))) (sym c.loop-number.invariant
     ∙ find-here (is_blocked_at cell.variable cell.clauses) c.loop-number.number-iterator here c.next.new.self c.in-Some.ensures.steps
-    (ap (is_blocked cell.clauses here.clause) (sym lit) ∙ sym c.is_blocked.ensures ∙ c.if-is_blocked.true)))
+    (blocked-against cell.variable cell.clauses here.clause c.literal_at-lit.result c.deref.result.now c.deref-in-loop-number.result.now c.clauses_against-others.result.now c.is_blocked.result
+    lit (c.deref.ensures.value ∙ c.in_ok-pos.ensures ∙ c.pos.ensures) (c.deref-in-loop-number.ensures.value ∙ c.in_ok-neg.ensures ∙ c.neg.ensures) c.clauses_against-others.ensures c.is_blocked.ensures ∙ c.if-is_blocked.true)))
 
 pub loop-number-preserved : goal.loop-number-preserved
 loop-number-preserved c =
@@ -32,7 +33,8 @@ loop-number-preserved c =
     let here : Named = record { number = c.in-Some.number; clause = c.in-Some.clause.now } in
     let lit : c.literal_at-lit.result ≡ literal_at cell.variable here.clause = c.literal_at-lit.ensures ∙ ap (λ x. literal_at x here.clause) c.var-var.ensures.value in
     find-later (is_blocked_at cell.variable cell.clauses) c.loop-number.number-iterator here c.next.new.self c.in-Some.ensures.steps
-    (ap (is_blocked cell.clauses here.clause) (sym lit) ∙ sym c.is_blocked.ensures ∙ c.if-is_blocked.false)
+    (blocked-against cell.variable cell.clauses here.clause c.literal_at-lit.result c.deref.result.now c.deref-in-loop-number.result.now c.clauses_against-others.result.now c.is_blocked.result
+    lit (c.deref.ensures.value ∙ c.in_ok-pos.ensures ∙ c.pos.ensures) (c.deref-in-loop-number.ensures.value ∙ c.in_ok-neg.ensures ∙ c.neg.ensures) c.clauses_against-others.ensures c.is_blocked.ensures ∙ c.if-is_blocked.false)
     ∙ c.loop-number.invariant
 
 pub returns : goal.returns

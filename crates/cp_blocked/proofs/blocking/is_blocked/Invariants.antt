@@ -1,10 +1,9 @@
-use Rattle.std.proofs.Common.{◌≡◌}
+use Rattle.std.proofs.Common.{◌≡◌, drop}
 use Rattle.std.specs.List.{list_all}
 use Rattle.cp_logic.specs.declared.named.Named.{Named}
 use Rattle.cp_logic.specs.Clauses.{is_tautology, resolvent}
-use Rattle.cp_logic.specs.Legality.{is_blocked}
 use Rattle.cp_blocked.proofs.blocking.is_blocked.Given as goal
 
--- the clause is blocked where the resolvents with those that are left are tautologies
+-- the resolvents with all others are tautologies where those with the ones that are left are
 abbrev pub invariant-loop-other : goal.invariant-loop-other
-invariant-loop-other l = list_all (λ (d : Named). is_tautology (resolvent l.lit l.clause d.clause)) l.other-iterator ≡ is_blocked l.cell.clauses l.clause l.lit
+invariant-loop-other l = list_all (λ (d : Named). is_tautology (resolvent l.lit l.clause d.clause)) (drop l.other-index l.others) ≡ list_all (λ (d : Named). is_tautology (resolvent l.lit l.clause d.clause)) l.others

@@ -7,7 +7,7 @@ use Rattle.cp_logic.specs.Legality.{first_in}
 use Rattle.cp_logic.specs.Views.{entry_of}
 use Rattle.cp_eliminate.specs.Chosen.{where_chosen}
 use Rattle.cp_eliminate.specs.Eliminating.{elimination_within}
-use Rattle.cp_eliminate.proofs.Searching.{is-taut, is-subsumption, is-strengthening, is-blocked, after-blocked}
+use Rattle.cp_eliminate.proofs.Searching.{is-taut, is-of-two, is-blocked, after-blocked}
 use Rattle.cp_eliminate.proofs.kinds.search.Goals as goal
 
 -- what a kind gave, as what it is
@@ -22,22 +22,15 @@ returns-in-Some c = is-taut c.args.cell.now.clauses c.args.rules.now c.args.next
     (found c.in_ok-entry.field-0 c.in-Some.entry _ c.in-Some.is c.in_ok-entry.ensures)
 
 pub returns-in-Some-2 : goal.returns-in-Some-2
-returns-in-Some-2 c = is-subsumption c.args.cell.now.clauses c.args.rules.now c.args.next c.args.cell.now.variable (entry_of c.in-Some-2.entry)
+returns-in-Some-2 c = is-of-two c.args.cell.now.clauses c.args.rules.now c.args.next c.args.cell.now.variable (entry_of c.in-Some-2.entry)
     (nothing c.in_ok-entry.field-0 _ c.in_default.is c.in_ok-entry.ensures)
     (found c.in_ok-entry-2.field-0 c.in-Some-2.entry _ c.in-Some-2.is c.in_ok-entry-2.ensures)
 
 pub returns-in-Some-3 : goal.returns-in-Some-3
-returns-in-Some-3 c = is-strengthening c.args.cell.now.clauses c.args.rules.now c.args.next c.args.cell.now.variable (entry_of c.in-Some-3.entry)
+returns-in-Some-3 c = is-blocked c.args.cell.now.clauses c.args.rules.now c.args.next c.args.cell.now.variable (entry_of c.in-Some-3.entry)
     (nothing c.in_ok-entry.field-0 _ c.in_default.is c.in_ok-entry.ensures)
     (nothing c.in_ok-entry-2.field-0 _ c.in_default-2.is c.in_ok-entry-2.ensures)
     (found c.in_ok-entry-3.field-0 c.in-Some-3.entry _ c.in-Some-3.is c.in_ok-entry-3.ensures)
-
-pub returns-in-Some-4 : goal.returns-in-Some-4
-returns-in-Some-4 c = is-blocked c.args.cell.now.clauses c.args.rules.now c.args.next c.args.cell.now.variable (entry_of c.in-Some-4.entry)
-    (nothing c.in_ok-entry.field-0 _ c.in_default.is c.in_ok-entry.ensures)
-    (nothing c.in_ok-entry-2.field-0 _ c.in_default-2.is c.in_ok-entry-2.ensures)
-    (nothing c.in_ok-entry-3.field-0 _ c.in_default-3.is c.in_ok-entry-3.ensures)
-    (found c.in_ok-entry-4.field-0 c.in-Some-4.entry _ c.in-Some-4.is c.in_ok-entry-4.ensures)
 
 pub returns : goal.returns
 returns c =
@@ -47,6 +40,5 @@ returns c =
     (λ found h. h ∙ after-blocked cs c.args.rules.now c.args.next x
     (nothing c.in_ok-entry.field-0 _ c.in_default.is c.in_ok-entry.ensures)
     (nothing c.in_ok-entry-2.field-0 _ c.in_default-2.is c.in_ok-entry-2.ensures)
-    (nothing c.in_ok-entry-3.field-0 _ c.in_default-3.is c.in_ok-entry-3.ensures)
-    (nothing c.in_ok-entry-4.field-0 _ c.in_default-4.is c.in_ok-entry-4.ensures))
+    (nothing c.in_ok-entry-3.field-0 _ c.in_default-3.is c.in_ok-entry-3.ensures))
     c.chosen_elimination.ensures

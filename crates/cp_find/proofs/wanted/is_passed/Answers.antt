@@ -2,8 +2,8 @@ use Rattle.std.proofs.Common.{◌+◌, ◌∙◌, sym, refl, arith, drop}
 use Rattle.std.proofs.lemmas.Bool.{eqb-true, eqb-false}
 use Rattle.std.proofs.Math.ListN.{drop_of_length-le}
 use Rattle.cp_find.proofs.Passes.{longer-none, pass-heads, pass-refused, pass-next, pass-later, pass-whole}
-use Rattle.cp_find.proofs.wanted.is_within.Goals as goal
-use Rattle.cp_find.proofs.wanted.is_within.Goals.{then-eq, else-eq}
+use Rattle.cp_find.proofs.wanted.is_passed.Goals as goal
+use Rattle.cp_find.proofs.wanted.is_passed.Goals.{then-eq, else-eq}
 
 pub returns-then-others-wanted : goal.returns-then-others-wanted
 returns-then-others-wanted c = sym (longer-none c.args.wanted.now c.args.others.now c.requires.ascending (omega arith))

@@ -9,7 +9,7 @@ use Rattle.cp_find.specs.Finds.{subsumes, struck, turned, strengthens}
 use Rattle.cp_find.proofs.Firsts.{alone, first-strengthened, strengthening_by}
 use Rattle.cp_find.proofs.Passes.{IsAscending-turned}
 use Rattle.cp_find.proofs.Scans.{first_some, some-here}
-use Rattle.cp_find.proofs.strengthening.first_strengthened.Goals as goal
+use Rattle.cp_find.proofs.strengthening.strengthened_in.Goals as goal
 
 pub new-requires : goal.new-requires
 new-requires c =
@@ -26,9 +26,9 @@ returns-in-Some-first c =
     let turned_by : Named = record { number = c.in-Some.number; clause = map (turned lit) c.in-Some.by.now } in
     let found : Some on ≡ find (strengthens lit by) cell.clauses =
     c.in-Some-first.ensures
-    ∙ ap (λ (w : Named). find (subsumes w) c.in_ok-lookup.lookup) (c.new.ensures ∙ ap (λ (z : List ℕ). let n : Named = record { number = c.in-Some.number; clause = z } in n)
+    ∙ ap (λ (w : Named). find (subsumes w) c.args.lookup.now) (c.new.ensures ∙ ap (λ (z : List ℕ). let n : Named = record { number = c.in-Some.number; clause = z } in n)
     (c.as_slice.ensures.value ∙ c.in_ok-fill_turned.ensures ∙ ap (map (turned lit)) c.lits.ensures.value))
-    ∙ ap (find (subsumes turned_by)) c.in_ok-lookup.ensures in
+    ∙ ap (find (subsumes turned_by)) c.requires.clauses in
     ap (λ (n : Named). Some (Strengthen n c.in_ok-on.on lit (record { number = c.args.next; clause = c.in_ok-without.field-0 }))) c.in_ok-by.ensures
     ∙ ap (λ (n : Named). Some (Strengthen by n lit (record { number = c.args.next; clause = c.in_ok-without.field-0 }))) c.in_ok-on.ensures
     ∙ ap (λ (n : List ℕ). Some (Strengthen by on lit (record { number = c.args.next; clause = n }))) c.in_ok-without.ensures

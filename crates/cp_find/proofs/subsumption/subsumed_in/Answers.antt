@@ -6,7 +6,7 @@ use Rattle.cp_logic.specs.Entries.{Subsume}
 use Rattle.cp_find.specs.Finds.{subsumes}
 use Rattle.cp_find.proofs.Firsts.{first-subsumed, subsumption_by, cell-have}
 use Rattle.cp_find.proofs.Scans.{first_some, some-here}
-use Rattle.cp_find.proofs.subsumption.first_subsumed.Goals as goal
+use Rattle.cp_find.proofs.subsumption.subsumed_in.Goals as goal
 
 pub returns-in-Some-first : goal.returns-in-Some-first
 returns-in-Some-first c =
@@ -19,8 +19,8 @@ returns-in-Some-first c =
     ∙ sym c.loop-number.invariant
     ∙ some-here (subsumption_by cell.clauses) c.loop-number.number-iterator by c.next.new.self (Subsume by gone) c.in-Some.ensures.steps
     (sym (ap (option_map (Subsume by)) (c.in-Some-first.ensures
-    ∙ ap (λ (w : Named). find (subsumes w) c.in_ok-lookup.lookup) (c.new-wanted.ensures ∙ ap (λ (z : List ℕ). let n : Named = record { number = c.in-Some.number; clause = z } in n) c.lits.ensures.value)
-    ∙ ap (find (subsumes by)) c.in_ok-lookup.ensures))))
+    ∙ ap (λ (w : Named). find (subsumes w) c.args.lookup.now) (c.new-wanted.ensures ∙ ap (λ (z : List ℕ). let n : Named = record { number = c.in-Some.number; clause = z } in n) c.lits.ensures.value)
+    ∙ ap (find (subsumes by)) c.requires))))
 
 pub returns : goal.returns
 returns c =
