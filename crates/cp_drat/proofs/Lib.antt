@@ -2,6 +2,7 @@ pub mod Accepted
 pub mod Counts
 pub mod Cuts
 pub mod Ends
+pub mod Groups
 pub mod Lines
 pub mod Refuted
 pub mod Rows

@@ -4,7 +4,7 @@ use Rattle.std.proofs.lemmas.List.{append-nil}
 use Rattle.cp_io.specs.declared.role.Role.{Role}
 use Rattle.cp_io.specs.Port.{Ports}
 use Rattle.cp_io.specs.Prints.{Buffered, Prints}
-use Rattle.cp_io.proofs.Printing.{Prints-then}
+use Rattle.cp_io.proofs.Printing.{Prints-none, Prints-then}
 
 -- some of the text is printed, and this is left
 abbrev pub PrintsUpTo : Role → List ℕ → List ℕ → Buffered → Ports → Buffered → Ports → Type 0
@@ -24,3 +24,7 @@ Prints-whole {role = role} whole left {p = p} {q = q} {old = old} {new = new} no
 pub Prints-last : {role : Role} {part : List ℕ} (whole left : List ℕ) {p q r : Buffered} {old mid new : Ports}
     → left ≡ part → PrintsUpTo role whole left p old q mid → Prints role part q mid r new → Prints role whole p old r new
 Prints-last {part = part} whole left is m n = Prints-whole whole [] refl (Prints-step whole left [] (is ∙ sym (append-nil part)) m n)
+
+-- nothing is printed yet
+pub Prints-start : (role : Role) (whole : List ℕ) (p : Buffered) (now : Ports) → PrintsUpTo role whole whole p now p now
+Prints-start role whole p now = ([], Prints-none role p now, refl)

@@ -1,24 +1,65 @@
--- The text of a proof log.
-use Rattle.std.specs.Prelude.{ℕ, List, [], ◌++◌, flat_map, codes, decimal, Bool, if◌then◌else◌}
-use Rattle.cp_logic.specs.Literals.{variable_of, is_positive}
+-- The text of a proof log, in either form of DRAT: in the text form each number is written in digits, in the binary one in groups of bits.
+use Rattle.std.specs.Prelude.{ℕ, zero, suc, ◌+◌, ◌-◌, ◌*◌, ◌/◌, ◌%◌, ◌≡◌, nat_lt, List, [], ◌∷◌, ◌++◌, flat_map, codes, decimal, Bool, if◌then◌else◌}
+use Rattle.cp_logic.specs.Literals.{variable_of, is_positive, IsLiteral}
+use Rattle.cp_drat.specs.declared.form.Form.{Form}
+use Rattle.cp_drat.specs.declared.form.Form.TheVariants.{Text, Binary}
 use Rattle.cp_drat.specs.Log.{Item, Lemma, Deletion}
 
 abbrev pub sign_text : Bool → List ℕ
 sign_text positive = if positive then [] else codes "-"
 
 -- the variable, behind a `-` where the literal is negative, and a space
-abbrev pub literal_part : ℕ → List ℕ
-literal_part l = sign_text (is_positive l) ++ (decimal (variable_of l) ++ codes " ")
+abbrev pub signed_text : ℕ → List ℕ
+signed_text l = sign_text (is_positive l) ++ (decimal (variable_of l) ++ codes " ")
 
--- the literals by ascending order, and a 0
-abbrev pub clause_text : List ℕ → List ℕ
-clause_text clause = flat_map literal_part clause ++ codes "0\n"
+-- the number in groups of seven bits, the low group first, of which all but the last have the high bit set; at most `more` groups
+-- stand before the last
+unfoldable pub groups : ℕ → ℕ → List ℕ
+groups zero n = n ∷ []
+groups (suc more) n = if nat_lt n 128 then n ∷ [] else (n % 128 + 128) ∷ groups more (n / 128)
 
--- a lemma is its clause, and a deletion is its clause behind a `d`
-abbrev pub item_text : Item → List ℕ
-item_text (Lemma clause) = clause_text clause
-item_text (Deletion clause) = codes "d " ++ clause_text clause
+-- the code of a literal, which is below 2^28
+abbrev pub code_bytes : ℕ → List ℕ
+code_bytes l = groups 3 l
+
+-- a literal of a clause
+unfoldable pub literal_text : Form → ℕ → List ℕ
+literal_text Text l = signed_text l
+literal_text Binary l = code_bytes l
+
+-- what stands behind the literals
+unfoldable pub end_text : Form → List ℕ
+end_text Text = codes "0\n"
+end_text Binary = 0 ∷ []
+
+-- the literals by ascending order, and the end
+abbrev pub clause_text : Form → List ℕ → List ℕ
+clause_text form clause = flat_map (literal_text form) clause ++ end_text form
+
+-- what stands before the literals of a lemma
+unfoldable pub lemma_text : Form → List ℕ
+lemma_text Text = []
+lemma_text Binary = codes "a"
+
+-- and before those of a deletion
+unfoldable pub deletion_text : Form → List ℕ
+deletion_text Text = codes "d "
+deletion_text Binary = codes "d"
+
+-- a lemma or a deletion with its clause
+abbrev pub item_text : Form → Item → List ℕ
+item_text form (Lemma clause) = lemma_text form ++ clause_text form clause
+item_text form (Deletion clause) = deletion_text form ++ clause_text form clause
 
 -- the items from the first to the last
-abbrev pub log_text : List Item → List ℕ
-log_text items = flat_map item_text items
+abbrev pub log_text : Form → List Item → List ℕ
+log_text form items = flat_map (item_text form) items
+
+-- the number whose groups stand in front, and the bytes behind them
+abbrev pub read_groups : List ℕ → ℕ × List ℕ
+read_groups [] = (0, [])
+read_groups (b ∷ bs) = if nat_lt b 128 then (b, bs) else (b - 128 + 128 * (read_groups bs).0, (read_groups bs).1)
+
+-- whatever follows it, a literal in binary is read back
+abbrev pub CodesAreRead : Type 0
+CodesAreRead = (l : ℕ) (behind : List ℕ) → IsLiteral l → read_groups (code_bytes l ++ behind) ≡ (l, behind)

@@ -4,7 +4,9 @@
 //! takes a lemma in where that is RUP, or RAT on its first literal, with respect to the clauses that it holds at this place, and a
 //! deletion, a line behind a `d`, takes one clause out. A proof of unsatisfiability ends with the empty clause.
 //!
-//! The text form is the one that each checker reads: a lemma is its literals and a 0. As in CaDiCaL's `drattracer.cpp` each change of
+//! In the text form, which each checker reads, a lemma is its literals and a 0. In the binary form, that of drat-trim, an item begins
+//! with an `a` or a `d`, and a literal is its code in groups of seven bits. Both are one walk over the journal, and `Form` says what
+//! stands around the literals. As in CaDiCaL's `drattracer.cpp` each change of
 //! the clauses is a line where it happens, so the log is the journal gone through once, with nothing kept beside it. Two orders
 //! matter. The new clause stands before the old one is deleted, since the old one is what shows that the new one is implied: so a
 //! shorter clause comes before the one that it replaces, and resolvents before the clauses of their variable. And nothing follows
@@ -26,148 +28,176 @@ ghost use Rattle.cp_io.specs.Port.{AtRole, Writes};
 ghost use Rattle.cp_io.specs.Prints.{Prints};
 ghost use Rattle.cp_logic.specs.Views.{entry_of, post_of};
 ghost use Rattle.cp_drat.specs.Log.{Lemma, Deletion, lemma_of, deletion_of, items_of, cut, has_end, is_end, log_of};
-ghost use Rattle.cp_drat.specs.Text.{log_text, item_text, clause_text, literal_part, sign_text};
+ghost use Rattle.cp_drat.specs.Text.{log_text, item_text, clause_text, literal_text, signed_text, code_bytes, sign_text};
 
+use crate::form::Form;
 use cp_io::{Desk, Failed, OutputBuffer, Role};
 use cp_logic::{Clause, Entry, Journal, Lit, Named, Post};
 
-/// Prints the DRAT proof of a journal to the role Proof, up to the first empty clause. It takes no memory.
+/// Prints the DRAT proof of a journal to the role Proof in the form, up to the first empty clause. It takes no memory.
 ///
 /// Where a write fails, a front of the text was written.
-pub fn print_log<D: Desk>(desk: &mut D, journal: &Journal) -> Result<(), Failed>
+pub fn print_log<D: Desk>(desk: &mut D, journal: &Journal, form: Form) -> Result<(), Failed>
     requires { (D.port desk.old Proof).way ≡ Some Out }
-    ensures { AtRole Proof (Writes (log_text (log_of journal.now.items)) result) (D.port desk.old) (D.port desk.new) }
+    ensures { AtRole Proof (Writes (log_text form (log_of journal.now.items)) result) (D.port desk.old) (D.port desk.new) }
 {
     let mut buffer = OutputBuffer::new();
-    put_posts(&mut buffer, desk, journal.as_slice());
+    put_posts(&mut buffer, desk, form, journal.as_slice());
     buffer.finish(desk, Role::Proof)
 }
 
-fn put_posts<D: Desk>(buffer: &mut OutputBuffer, desk: &mut D, posts: &[Post])
+fn put_posts<D: Desk>(buffer: &mut OutputBuffer, desk: &mut D, form: Form, posts: &[Post])
     requires { (D.port desk.old Proof).way ≡ Some Out }
-    ensures prints { Prints Proof (log_text (log_of (map (λ p. post_of p) posts.now))) buffer.old (D.port desk.old) buffer.new (D.port desk.new) }
+    ensures prints { Prints Proof (log_text form (log_of (map (λ p. post_of p) posts.now))) buffer.old (D.port desk.old) buffer.new (D.port desk.new) }
     ensures bound { (D.port desk.new Proof).way ≡ Some Out }
 {
     for post in posts {
-        if put_entry(buffer, desk, &post.entry) {
+        if put_entry(buffer, desk, form, &post.entry) {
             return;
         }
     }
 }
 
 // Answers whether the empty clause was added, behind which nothing is printed.
-fn put_entry<D: Desk>(buffer: &mut OutputBuffer, desk: &mut D, entry: &Entry) -> bool
+fn put_entry<D: Desk>(buffer: &mut OutputBuffer, desk: &mut D, form: Form, entry: &Entry) -> bool
     requires { (D.port desk.old Proof).way ≡ Some Out }
-    ensures prints { Prints Proof (log_text (cut (items_of (entry_of entry.now)))) buffer.old (D.port desk.old) buffer.new (D.port desk.new) }
+    ensures prints { Prints Proof (log_text form (cut (items_of (entry_of entry.now)))) buffer.old (D.port desk.old) buffer.new (D.port desk.new) }
     ensures bound { (D.port desk.new Proof).way ≡ Some Out }
     ensures ends { result ≡ has_end (items_of (entry_of entry.now)) }
 {
     match entry {
-        Entry::Taut { gone } => put_deletion(buffer, desk, &gone.clause),
-        Entry::Subsume { gone, .. } => put_deletion(buffer, desk, &gone.clause),
-        Entry::Strengthen { on, new, .. } => return put_shorter(buffer, desk, on, new),
-        Entry::Block { gone, .. } => put_deletion(buffer, desk, &gone.clause),
+        Entry::Taut { gone } => put_deletion(buffer, desk, form, &gone.clause),
+        Entry::Subsume { gone, .. } => put_deletion(buffer, desk, form, &gone.clause),
+        Entry::Strengthen { on, new, .. } => return put_shorter(buffer, desk, form, on, new),
+        Entry::Block { gone, .. } => put_deletion(buffer, desk, form, &gone.clause),
         Entry::Eliminate { pos, neg, new, .. } => {
-            return put_resolvents(buffer, desk, pos.as_slice(), neg.as_slice(), new.as_slice());
+            return put_resolvents(
+                buffer,
+                desk,
+                form,
+                pos.as_slice(),
+                neg.as_slice(),
+                new.as_slice(),
+            );
         }
         Entry::Look { .. } => {}
     }
     false
 }
 
-fn put_shorter<D: Desk>(buffer: &mut OutputBuffer, desk: &mut D, on: &Named, new: &Named) -> bool
+fn put_shorter<D: Desk>(
+    buffer: &mut OutputBuffer,
+    desk: &mut D,
+    form: Form,
+    on: &Named,
+    new: &Named,
+) -> bool
     requires { (D.port desk.old Proof).way ≡ Some Out }
-    ensures prints { Prints Proof (log_text (cut (lemma_of new.now ∷ deletion_of on.now ∷ []))) buffer.old (D.port desk.old) buffer.new (D.port desk.new) }
+    ensures prints { Prints Proof (log_text form (cut (lemma_of new.now ∷ deletion_of on.now ∷ []))) buffer.old (D.port desk.old) buffer.new (D.port desk.new) }
     ensures bound { (D.port desk.new Proof).way ≡ Some Out }
     ensures ends { result ≡ has_end (lemma_of new.now ∷ deletion_of on.now ∷ []) }
 {
-    if put_lemma(buffer, desk, &new.clause) {
+    if put_lemma(buffer, desk, form, &new.clause) {
         return true;
     }
-    put_deletion(buffer, desk, &on.clause);
+    put_deletion(buffer, desk, form, &on.clause);
     false
 }
 
 fn put_resolvents<D: Desk>(
     buffer: &mut OutputBuffer,
     desk: &mut D,
+    form: Form,
     pos: &[Named],
     neg: &[Named],
     new: &[Named],
 ) -> bool
     requires { (D.port desk.old Proof).way ≡ Some Out }
-    ensures prints { Prints Proof (log_text (cut (map lemma_of new.now ++ (map deletion_of pos.now ++ map deletion_of neg.now)))) buffer.old (D.port desk.old) buffer.new (D.port desk.new) }
+    ensures prints { Prints Proof (log_text form (cut (map lemma_of new.now ++ (map deletion_of pos.now ++ map deletion_of neg.now)))) buffer.old (D.port desk.old) buffer.new (D.port desk.new) }
     ensures bound { (D.port desk.new Proof).way ≡ Some Out }
     ensures ends { result ≡ has_end (map lemma_of new.now ++ (map deletion_of pos.now ++ map deletion_of neg.now)) }
 {
-    if put_lemmas(buffer, desk, new) {
+    if put_lemmas(buffer, desk, form, new) {
         return true;
     }
-    put_deletions(buffer, desk, pos);
-    put_deletions(buffer, desk, neg);
+    put_deletions(buffer, desk, form, pos);
+    put_deletions(buffer, desk, form, neg);
     false
 }
 
 // Answers whether the empty clause was added.
-fn put_lemmas<D: Desk>(buffer: &mut OutputBuffer, desk: &mut D, list: &[Named]) -> bool
+fn put_lemmas<D: Desk>(buffer: &mut OutputBuffer, desk: &mut D, form: Form, list: &[Named]) -> bool
     requires { (D.port desk.old Proof).way ≡ Some Out }
-    ensures prints { Prints Proof (log_text (cut (map lemma_of list.now))) buffer.old (D.port desk.old) buffer.new (D.port desk.new) }
+    ensures prints { Prints Proof (log_text form (cut (map lemma_of list.now))) buffer.old (D.port desk.old) buffer.new (D.port desk.new) }
     ensures bound { (D.port desk.new Proof).way ≡ Some Out }
     ensures ends { result ≡ has_end (map lemma_of list.now) }
 {
     for named in list {
-        if put_lemma(buffer, desk, &named.clause) {
+        if put_lemma(buffer, desk, form, &named.clause) {
             return true;
         }
     }
     false
 }
 
-fn put_deletions<D: Desk>(buffer: &mut OutputBuffer, desk: &mut D, list: &[Named])
+fn put_deletions<D: Desk>(buffer: &mut OutputBuffer, desk: &mut D, form: Form, list: &[Named])
     requires { (D.port desk.old Proof).way ≡ Some Out }
-    ensures prints { Prints Proof (log_text (map deletion_of list.now)) buffer.old (D.port desk.old) buffer.new (D.port desk.new) }
+    ensures prints { Prints Proof (log_text form (map deletion_of list.now)) buffer.old (D.port desk.old) buffer.new (D.port desk.new) }
     ensures bound { (D.port desk.new Proof).way ≡ Some Out }
 {
     for named in list {
-        put_deletion(buffer, desk, &named.clause);
+        put_deletion(buffer, desk, form, &named.clause);
     }
 }
 
 // Answers whether the lemma is the empty clause.
-fn put_lemma<D: Desk>(buffer: &mut OutputBuffer, desk: &mut D, clause: &Clause) -> bool
+fn put_lemma<D: Desk>(buffer: &mut OutputBuffer, desk: &mut D, form: Form, clause: &Clause) -> bool
     requires { (D.port desk.old Proof).way ≡ Some Out }
-    ensures prints { Prints Proof (item_text (Lemma clause.now)) buffer.old (D.port desk.old) buffer.new (D.port desk.new) }
+    ensures prints { Prints Proof (item_text form (Lemma clause.now)) buffer.old (D.port desk.old) buffer.new (D.port desk.new) }
     ensures bound { (D.port desk.new Proof).way ≡ Some Out }
     ensures ends { result ≡ is_end (Lemma clause.now) }
 {
     let lits = clause.lits();
-    put_clause(buffer, desk, lits);
+    buffer.put(desk, Role::Proof, form.lemma_mark());
+    put_clause(buffer, desk, form, lits);
     lits.is_empty()
 }
 
-fn put_deletion<D: Desk>(buffer: &mut OutputBuffer, desk: &mut D, clause: &Clause)
+fn put_deletion<D: Desk>(buffer: &mut OutputBuffer, desk: &mut D, form: Form, clause: &Clause)
     requires { (D.port desk.old Proof).way ≡ Some Out }
-    ensures prints { Prints Proof (item_text (Deletion clause.now)) buffer.old (D.port desk.old) buffer.new (D.port desk.new) }
+    ensures prints { Prints Proof (item_text form (Deletion clause.now)) buffer.old (D.port desk.old) buffer.new (D.port desk.new) }
     ensures bound { (D.port desk.new Proof).way ≡ Some Out }
 {
-    buffer.put(desk, Role::Proof, b"d ");
-    put_clause(buffer, desk, clause.lits());
+    buffer.put(desk, Role::Proof, form.deletion_mark());
+    put_clause(buffer, desk, form, clause.lits());
 }
 
-fn put_clause<D: Desk>(buffer: &mut OutputBuffer, desk: &mut D, lits: &[Lit])
+fn put_clause<D: Desk>(buffer: &mut OutputBuffer, desk: &mut D, form: Form, lits: &[Lit])
     requires { (D.port desk.old Proof).way ≡ Some Out }
-    ensures prints { Prints Proof (clause_text lits.now) buffer.old (D.port desk.old) buffer.new (D.port desk.new) }
+    ensures prints { Prints Proof (clause_text form lits.now) buffer.old (D.port desk.old) buffer.new (D.port desk.new) }
     ensures bound { (D.port desk.new Proof).way ≡ Some Out }
 {
     for lit in lits {
-        put_literal(buffer, desk, *lit);
+        put_literal(buffer, desk, form, *lit);
     }
-    buffer.put(desk, Role::Proof, b"0\n");
+    buffer.put(desk, Role::Proof, form.end_mark());
 }
 
-fn put_literal<D: Desk>(buffer: &mut OutputBuffer, desk: &mut D, lit: Lit)
+#[tactic(auto, unfolding(crate::specs::Text::literal_text))]
+fn put_literal<D: Desk>(buffer: &mut OutputBuffer, desk: &mut D, form: Form, lit: Lit)
     requires { (D.port desk.old Proof).way ≡ Some Out }
-    ensures prints { Prints Proof (literal_part lit) buffer.old (D.port desk.old) buffer.new (D.port desk.new) }
+    ensures prints { Prints Proof (literal_text form lit) buffer.old (D.port desk.old) buffer.new (D.port desk.new) }
+    ensures bound { (D.port desk.new Proof).way ≡ Some Out }
+{
+    match form {
+        Form::Text => put_signed(buffer, desk, lit),
+        Form::Binary => put_code(buffer, desk, lit),
+    }
+}
+
+fn put_signed<D: Desk>(buffer: &mut OutputBuffer, desk: &mut D, lit: Lit)
+    requires { (D.port desk.old Proof).way ≡ Some Out }
+    ensures prints { Prints Proof (signed_text lit) buffer.old (D.port desk.old) buffer.new (D.port desk.new) }
     ensures bound { (D.port desk.new Proof).way ≡ Some Out }
 {
     let mut number = itoa::Buffer::new();
@@ -180,4 +210,18 @@ fn sign(positive: bool) -> &'static [u8]
     ensures { result.now ≡ sign_text positive }
 {
     if positive { b"" } else { b"-" }
+}
+
+// The code in groups of seven bits, the low group first. The high bit says that another follows.
+fn put_code<D: Desk>(buffer: &mut OutputBuffer, desk: &mut D, lit: Lit)
+    requires { (D.port desk.old Proof).way ≡ Some Out }
+    ensures prints { Prints Proof (code_bytes lit) buffer.old (D.port desk.old) buffer.new (D.port desk.new) }
+    ensures bound { (D.port desk.new Proof).way ≡ Some Out }
+{
+    let mut rest = lit.code();
+    'groups: while rest >= 128 {
+        buffer.put_byte(desk, Role::Proof, (rest % 128 + 128) as u8);
+        rest /= 128;
+    }
+    buffer.put_byte(desk, Role::Proof, rest as u8);
 }

@@ -4,7 +4,7 @@ ghost use Rattle.std.specs.Prelude.{◌≡◌, IfOk};
 ghost use Rattle.cp_io.specs.Port.{NothingBound};
 ghost use Rattle.cp_io.specs.Memory.{memory_port};
 
-use crate::print_log;
+use crate::{Form, print_log};
 use cp_io::{Desk, Failed, Inputs, MemDesk, Role, Way};
 use cp_logic::{Clause, Entry, Journal, Lit, Named, NamedList, Post};
 use std::alloc::{AllocError, Global};
@@ -58,8 +58,38 @@ fn journals_are_printed(rt: HostRuntime) -> Result<(), Fail> {
     for (steps, wanted) in rows {
         let journal = journal_of(rt.alloc(), steps)?;
         let mut desk = desk_of(rt.alloc())?;
-        print_of(&mut desk, &journal).ok().ok_or("not printed")?;
+        print_of(&mut desk, &journal, Form::Text)
+            .ok()
+            .ok_or("not printed")?;
         assert_eq!(rt; desk.written(Role::Proof), wanted.as_bytes());
+    }
+    Ok(())
+}
+
+#[test]
+fn journals_are_printed_in_binary(rt: HostRuntime) -> Result<(), Fail> {
+    let rows: [(&[Step], &[u8]); 4] = [
+        (&[], &[]),
+        (&[Step::Strengthen(&[1], &[-1], -1, &[])], &[0x61, 0]),
+        (
+            &[
+                Step::Eliminate(1, &[&[1, 2]], &[&[-1, 3]], &[&[2, 3]]),
+                Step::Eliminate(2, &[&[2, 3]], &[], &[]),
+            ],
+            &[0x61, 4, 6, 0, 0x64, 2, 4, 0, 0x64, 3, 6, 0, 0x64, 4, 6, 0],
+        ),
+        (
+            &[Step::Block(&[64, -8192, 2_000_000], 64)],
+            &[0x64, 0x80, 1, 0x81, 0x80, 1, 0x80, 0x92, 0xf4, 1, 0],
+        ),
+    ];
+    for (steps, wanted) in rows {
+        let journal = journal_of(rt.alloc(), steps)?;
+        let mut desk = desk_of(rt.alloc())?;
+        print_of(&mut desk, &journal, Form::Binary)
+            .ok()
+            .ok_or("not printed")?;
+        assert_eq!(rt; desk.written(Role::Proof), wanted);
     }
     Ok(())
 }
@@ -71,11 +101,11 @@ fn desk_of(alloc: Global) -> Result<MemDesk, AllocError>
     MemDesk::honest(alloc, Inputs::new(alloc))
 }
 
-fn print_of<D: Desk>(desk: &mut D, journal: &Journal) -> Result<(), Failed>
+fn print_of<D: Desk>(desk: &mut D, journal: &Journal, form: Form) -> Result<(), Failed>
     requires { NothingBound (D.port desk.old) }
 {
     desk.bind(Role::Proof, Way::Out, "out")?;
-    print_log(desk, journal)
+    print_log(desk, journal, form)
 }
 
 fn journal_of(alloc: Global, steps: &[Step]) -> Result<Journal, AllocError> {

@@ -16,6 +16,7 @@ use Rattle.cp_logic.specs.Slots.{Held}
 use Rattle.cp_logic.specs.Journals.{Post, folded}
 use Rattle.cp_dimacs.specs.Cnf.{cnf_text}
 use Rattle.cp_drat.specs.Log.{log_of}
+use Rattle.cp_drat.specs.declared.form.Form.TheVariants.{Text}
 use Rattle.cp_drat.specs.Text.{log_text}
 use Rattle.cp_stack.specs.Text.{stack_text}
 use Rattle.cp_sweep.specs.Swept.{IsSwept, IsUnspent}
@@ -48,23 +49,23 @@ module _ (old p1 p2 p3 : Ports) (r1 r2 r3 : Result (Unit {0}) Failed) (n : Nothi
 
 -- the texts, one after the other
 module _ (posts : List Post) (variables : ℕ) (pairs : List Pair) (f : Formula) (old p1 p2 : Ports) (r1 r2 : Result (Unit {0}) Failed)
-    (w1 : AtRole Proof (Writes (log_text (log_of posts)) r1) old p1) (ok1 : is_err r1 ≡ false) where
-  pub written-1 : WrittenSoFar (write Proof (log_text (log_of posts)) ∷ []) old p1
-  written-1 = written-on [] Proof (log_text (log_of posts)) old old p1 (none-written old) refl r1 ok1 w1
+    (w1 : AtRole Proof (Writes (log_text Text (log_of posts)) r1) old p1) (ok1 : is_err r1 ≡ false) where
+  pub written-1 : WrittenSoFar (write Proof (log_text Text (log_of posts)) ∷ []) old p1
+  written-1 = written-on [] Proof (log_text Text (log_of posts)) old old p1 (none-written old) refl r1 ok1 w1
 
   module _ (w2 : AtRole Stack (Writes (stack_text variables pairs) r2) p1 p2) where
     pub stack-off : is_err r2 ≡ true → FailedToWrite (simplify_texts posts variables pairs f) Stack old p2
-    stack-off failed = written-off (write Proof (log_text (log_of posts)) ∷ []) Stack (stack_text variables pairs) old p1 p2 written-1 refl r2 failed w2 (write Reduced (cnf_text f) ∷ [])
+    stack-off failed = written-off (write Proof (log_text Text (log_of posts)) ∷ []) Stack (stack_text variables pairs) old p1 p2 written-1 refl r2 failed w2 (write Reduced (cnf_text f) ∷ [])
 
     module _ (ok2 : is_err r2 ≡ false) (new : Ports) (r3 : Result (Unit {0}) Failed) (w3 : AtRole Reduced (Writes (cnf_text f) r3) p2 new) where
-      pub written-2 : WrittenSoFar (write Proof (log_text (log_of posts)) ∷ (write Stack (stack_text variables pairs) ∷ [])) old p2
-      written-2 = written-on (write Proof (log_text (log_of posts)) ∷ []) Stack (stack_text variables pairs) old p1 p2 written-1 refl r2 ok2 w2
+      pub written-2 : WrittenSoFar (write Proof (log_text Text (log_of posts)) ∷ (write Stack (stack_text variables pairs) ∷ [])) old p2
+      written-2 = written-on (write Proof (log_text Text (log_of posts)) ∷ []) Stack (stack_text variables pairs) old p1 p2 written-1 refl r2 ok2 w2
 
       pub reduced-off : is_err r3 ≡ true → FailedToWrite (simplify_texts posts variables pairs f) Reduced old new
-      reduced-off failed = written-off (write Proof (log_text (log_of posts)) ∷ (write Stack (stack_text variables pairs) ∷ [])) Reduced (cnf_text f) old p2 new written-2 refl r3 failed w3 []
+      reduced-off failed = written-off (write Proof (log_text Text (log_of posts)) ∷ (write Stack (stack_text variables pairs) ∷ [])) Reduced (cnf_text f) old p2 new written-2 refl r3 failed w3 []
 
       pub all-written : is_err r3 ≡ false → WrittenSoFar (simplify_texts posts variables pairs f) old new
-      all-written ok3 = written-on (write Proof (log_text (log_of posts)) ∷ (write Stack (stack_text variables pairs) ∷ [])) Reduced (cnf_text f) old p2 new written-2 refl r3 ok3 w3
+      all-written ok3 = written-on (write Proof (log_text Text (log_of posts)) ∷ (write Stack (stack_text variables pairs) ∷ [])) Reduced (cnf_text f) old p2 new written-2 refl r3 ok3 w3
 
 -- From the words to the journal: the words give options, the roles are bound, Cnf reads as a formula, and the journal is its sweep's.
 module _ (words : List (List ℕ)) (old p1 p2 new : Ports) (options : Options) (f : Held) (posts : List Post) (left : Formula) (variables : ℕ) (pairs : List Pair) (stopped : Option Stop)

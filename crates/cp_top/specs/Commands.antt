@@ -6,6 +6,7 @@ use Rattle.cp_logic.specs.Assignments.{Pair}
 use Rattle.cp_logic.specs.Formulas.{Formula}
 use Rattle.cp_logic.specs.Journals.{Post}
 use Rattle.cp_dimacs.specs.Cnf.{cnf_text}
+use Rattle.cp_drat.specs.declared.form.Form.TheVariants.{Text}
 use Rattle.cp_drat.specs.Log.{log_of}
 use Rattle.cp_drat.specs.Text.{log_text}
 use Rattle.cp_extend.specs.ModelText.{model_text}
@@ -34,7 +35,7 @@ extend_bindings = bind Stack In stack_name ∷ (bind Model In std_name ∷ (bind
 
 -- what `simplify` writes, in its order: the log of the posts, the pairs over so many variables, and the formula
 abbrev pub simplify_texts : List Post → ℕ → List Pair → Formula → List Written
-simplify_texts posts variables pairs f = write Proof (log_text (log_of posts)) ∷ (write Stack (stack_text variables pairs) ∷ (write Reduced (cnf_text f) ∷ []))
+simplify_texts posts variables pairs f = write Proof (log_text Text (log_of posts)) ∷ (write Stack (stack_text variables pairs) ∷ (write Reduced (cnf_text f) ∷ []))
 
 -- what `extend` writes: the model
 abbrev pub extend_texts : List Bool → List Written

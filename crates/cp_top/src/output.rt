@@ -11,7 +11,7 @@ ghost use Rattle.cp_top.specs.Texts.{WritesInTurn};
 ghost use Rattle.cp_top.specs.Commands.{simplify_texts};
 
 use cp_dimacs::print_cnf;
-use cp_drat::print_log;
+use cp_drat::{Form, print_log};
 use cp_io::{Desk, Role};
 use cp_stack::print_stack;
 use cp_sweep::Swept;
@@ -24,7 +24,7 @@ pub(crate) fn write_result<D: Desk>(desk: &mut D, swept: &Swept) -> Result<(), R
     requires reduced { (D.port desk.old Reduced).way ≡ Some Out }
     ensures { WritesInTurn (simplify_texts swept.now.journal.items swept.now.stack.vars (pairs_of swept.now.stack.pairs) swept.now.formula.formula) result (D.port desk.old) (D.port desk.new) }
 {
-    if print_log(desk, &swept.journal).is_err() {
+    if print_log(desk, &swept.journal, Form::Text).is_err() {
         return Err(Role::Proof);
     }
     if print_stack(desk, &swept.stack).is_err() {

@@ -10,4 +10,4 @@ use Rattle.cp_drat.proofs.printing.print_log.Goals as goal
 pub returns : goal.returns
 returns g c =
     let prints = rw c.new-buffer.ensures at c.put_posts.ensures.prints in
-    Prints-finish (subst (λ (ps : List Post). Prints Proof (log_text (log_of ps)) nothing_pending (g.D.Desk.port c.args.desk.now) c.put_posts.new.buffer (g.D.Desk.port c.put_posts.new.desk)) c.as_slice.ensures prints) c.finish.ensures
+    Prints-finish (subst (λ (ps : List Post). Prints Proof (log_text c.args.form (log_of ps)) nothing_pending (g.D.Desk.port c.args.desk.now) c.put_posts.new.buffer (g.D.Desk.port c.put_posts.new.desk)) c.as_slice.ensures prints) c.finish.ensures

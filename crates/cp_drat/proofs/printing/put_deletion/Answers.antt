@@ -4,4 +4,5 @@ use Rattle.cp_drat.proofs.printing.put_deletion.Goals as goal
 pub returns-clause-prints : goal.returns-clause-prints
 returns-clause-prints g c =
     let clause = rw c.lits.ensures.value at c.put_clause.ensures.prints in
-    Prints-then c.put.ensures.prints clause
+    let mark = rw c.deletion_mark.ensures at c.put.ensures.prints in
+    Prints-then mark clause

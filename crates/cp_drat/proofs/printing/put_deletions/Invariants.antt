@@ -8,6 +8,6 @@ use Rattle.cp_drat.proofs.printing.put_deletions.Given as goal
 
 abbrev pub invariant-loop-named : goal.invariant-loop-named
 invariant-loop-named g l = record {
-  prints : PrintsUpTo Proof (log_text (map deletion_of l.list)) (log_text (map deletion_of (drop l.named-index l.list))) l.fn.buffer (g.D.Desk.port l.fn.desk) l.buffer (g.D.Desk.port l.desk);
+  prints : PrintsUpTo Proof (log_text l.form (map deletion_of l.list)) (log_text l.form (map deletion_of (drop l.named-index l.list))) l.fn.buffer (g.D.Desk.port l.fn.desk) l.buffer (g.D.Desk.port l.desk);
   bound : (g.D.Desk.port l.desk Proof).way ≡ Some Out;
 }

@@ -13,7 +13,7 @@ returns-in-Eliminate-clause-prints g c =
     let is : items_of (entry_of c.args.entry.now) ≡ map lemma_of e.new.items ++ (map deletion_of e.pos.items ++ map deletion_of e.neg.items) =
     ap (λ x. items_of (entry_of x)) e.is ∙ items_of-eliminate e.var e.pos.items e.neg.items e.new.items in
     let prints = rw (c.as_slice.ensures, c.as_slice-in-Eliminate.ensures, c.as_slice-in-Eliminate-2.ensures) at c.put_resolvents.ensures.prints in
-    subst (λ (t : List Item). Prints Proof (log_text (cut t)) c.args.buffer.now (g.D.Desk.port c.args.desk.now) c.put_resolvents.new.buffer (g.D.Desk.port c.put_resolvents.new.desk)) (sym is) prints
+    subst (λ (t : List Item). Prints Proof (log_text c.args.form (cut t)) c.args.buffer.now (g.D.Desk.port c.args.desk.now) c.put_resolvents.new.buffer (g.D.Desk.port c.put_resolvents.new.desk)) (sym is) prints
 
 pub returns-in-Eliminate-clause-ends : goal.returns-in-Eliminate-clause-ends
 returns-in-Eliminate-clause-ends g c =

@@ -8,7 +8,7 @@ use Rattle.cp_drat.proofs.printing.put_lemmas.Given as goal
 
 abbrev pub invariant-loop-named : goal.invariant-loop-named
 invariant-loop-named g l = record {
-  prints : PrintsUpTo Proof (log_text (cut (map lemma_of l.list))) (log_text (cut (map lemma_of (drop l.named-index l.list)))) l.fn.buffer (g.D.Desk.port l.fn.desk) l.buffer (g.D.Desk.port l.desk);
+  prints : PrintsUpTo Proof (log_text l.form (cut (map lemma_of l.list))) (log_text l.form (cut (map lemma_of (drop l.named-index l.list)))) l.fn.buffer (g.D.Desk.port l.fn.desk) l.buffer (g.D.Desk.port l.desk);
   ends : has_end (map lemma_of (drop l.named-index l.list)) ≡ has_end (map lemma_of l.list);
   bound : (g.D.Desk.port l.desk Proof).way ≡ Some Out;
 }

@@ -13,7 +13,7 @@ returns-then-put_lemmas-clause-prints g c =
     let lemmas = map lemma_of c.args.new.now in
     let deletions = map deletion_of c.args.pos.now ++ map deletion_of c.args.neg.now in
     let some : has_end lemmas ≡ true = sym c.put_lemmas.ensures.ends ∙ c.if-put_lemmas.true in
-    subst (λ (t : List ℕ). Prints Proof t c.args.buffer.now (g.D.Desk.port c.args.desk.now) c.put_lemmas.new.buffer (g.D.Desk.port c.put_lemmas.new.desk)) (sym (ap log_text (cut-ended lemmas deletions some))) c.put_lemmas.ensures.prints
+    subst (λ (t : List ℕ). Prints Proof t c.args.buffer.now (g.D.Desk.port c.args.desk.now) c.put_lemmas.new.buffer (g.D.Desk.port c.put_lemmas.new.desk)) (sym (ap (log_text c.args.form) (cut-ended lemmas deletions some))) c.put_lemmas.ensures.prints
 
 pub returns-then-put_lemmas-clause-ends : goal.returns-then-put_lemmas-clause-ends
 returns-then-put_lemmas-clause-ends g c =
@@ -25,10 +25,10 @@ returns-clause-prints g c =
     let pos = map deletion_of c.args.pos.now in
     let neg = map deletion_of c.args.neg.now in
     let none : has_end lemmas ≡ false = sym c.put_lemmas.ensures.ends ∙ c.if-put_lemmas.false in
-    let whole : log_text (cut (lemmas ++ (pos ++ neg))) ≡ log_text (cut lemmas) ++ (log_text pos ++ log_text neg) =
-    ap log_text (cut-append lemmas (pos ++ neg) none ∙ ap (λ is. lemmas ++ is) (cut-whole (pos ++ neg) (has_end-deletions c.args.pos.now c.args.neg.now)))
-    ∙ flat_map-append item_text lemmas (pos ++ neg) ∙ ap (λ t. log_text lemmas ++ t) (flat_map-append item_text pos neg)
-    ∙ ap (λ is. log_text is ++ (log_text pos ++ log_text neg)) (sym (cut-whole lemmas none)) in
+    let whole : log_text c.args.form (cut (lemmas ++ (pos ++ neg))) ≡ log_text c.args.form (cut lemmas) ++ (log_text c.args.form pos ++ log_text c.args.form neg) =
+    ap (log_text c.args.form) (cut-append lemmas (pos ++ neg) none ∙ ap (λ is. lemmas ++ is) (cut-whole (pos ++ neg) (has_end-deletions c.args.pos.now c.args.neg.now)))
+    ∙ flat_map-append (item_text c.args.form) lemmas (pos ++ neg) ∙ ap (λ t. log_text c.args.form lemmas ++ t) (flat_map-append (item_text c.args.form) pos neg)
+    ∙ ap (λ is. log_text c.args.form is ++ (log_text c.args.form pos ++ log_text c.args.form neg)) (sym (cut-whole lemmas none)) in
     subst (λ (t : List ℕ). Prints Proof t c.args.buffer.now (g.D.Desk.port c.args.desk.now) c.put_deletions-2.new.buffer (g.D.Desk.port c.put_deletions-2.new.desk)) (sym whole)
     (Prints-then c.put_lemmas.ensures.prints (Prints-then c.put_deletions.ensures.prints c.put_deletions-2.ensures.prints))
 

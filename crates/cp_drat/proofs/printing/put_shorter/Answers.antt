@@ -13,6 +13,6 @@ returns-clause-prints g c =
     let new = lemma_of c.args.new.now in
     let old = deletion_of c.args.on.now in
     let more : is_end new ≡ false = sym c.put_lemma.ensures.ends ∙ c.if-put_lemma.false in
-    let whole : log_text (cut (new ∷ old ∷ [])) ≡ item_text new ++ item_text old = ap log_text (cut-next new (old ∷ []) more) ∙ ap (λ t. item_text new ++ t) (append-nil (item_text old)) in
+    let whole : log_text c.args.form (cut (new ∷ old ∷ [])) ≡ item_text c.args.form new ++ item_text c.args.form old = ap (log_text c.args.form) (cut-next new (old ∷ []) more) ∙ ap (λ t. item_text c.args.form new ++ t) (append-nil (item_text c.args.form old)) in
     subst (λ (t : List ℕ). Prints Proof t c.args.buffer.now (g.D.Desk.port c.args.desk.now) c.put_deletion.new.buffer (g.D.Desk.port c.put_deletion.new.desk)) (sym whole)
     (Prints-then c.put_lemma.ensures.prints c.put_deletion.ensures.prints)

@@ -2,7 +2,7 @@ use Rattle.std.proofs.Common.{◌∙◌, ap}
 use Rattle.std.specs.Prelude.{decimal}
 use Rattle.cp_io.proofs.Printing.{Prints-then}
 use Rattle.cp_drat.specs.Text.{sign_text}
-use Rattle.cp_drat.proofs.printing.put_literal.Goals as goal
+use Rattle.cp_drat.proofs.printing.put_signed.Goals as goal
 
 pub returns-clause-prints : goal.returns-clause-prints
 returns-clause-prints g c =

@@ -1,0 +1,2 @@
+pub mod DrawnFacts
+pub mod Rows
