@@ -1,0 +1,4 @@
+pub mod Hoods
+pub mod Seats
+pub mod Tries
+pub mod Commits
