@@ -67,4 +67,4 @@ IsCommit f worker round tries e old new notes posts (Err (Numbers next)) =
     (h : List Post) × GetsTurn tries notes h × (next ≡ (left_by f h).next) × IsStopAfter f h e ForNumbers
     × (posts ≡ []) × IsSameHood old new
 IsCommit f worker round tries e old new notes posts (Err NoMemory) =
-    (posts ≡ []) × IsSameHood old new
+    (h : List Post) × GetsTurn tries notes h × (posts ≡ []) × IsSameHood old new
