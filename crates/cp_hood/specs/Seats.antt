@@ -24,3 +24,7 @@ EndWith n notes = (before : List Note) × (notes ≡ before ++ n ∷ [])
 -- tries that met the turn with these seats
 abbrev pub met_turns : List ℕ → List Note
 met_turns seats = map MetTurn seats
+
+-- the seat after tries that met these
+abbrev pub noted_all : List Note → SeatView → SeatView
+noted_all ns v = record v { own = record v.own { notes = v.own.notes ++ ns } }
