@@ -1,2 +1,4 @@
+pub mod Going
+pub mod Holding
 pub mod Centred
 pub mod Following
