@@ -19,7 +19,8 @@ use Rattle.cp_logic.proofs.Ascending.{same_number, below_others}
 use Rattle.cp_logic.proofs.Expansions.{below_at}
 use Rattle.cp_logic.proofs.Locals.{legal_in-local}
 use Rattle.cp_occ.specs.Cells.{CellView, variables_of, lists_of}
-use Rattle.cp_occ.specs.Changes.{lists_after}
+use Rattle.cp_occ.specs.Changes.{IsChange, lists_after}
+use Rattle.cp_occ.proofs.Posted.{new-numbers, new-rise}
 use Rattle.cp_yard.specs.Views.{Lock, lock, held_of, locks_after}
 use Rattle.cp_yard.specs.Rule.{HoldsAll}
 use Rattle.cp_hood.specs.Hoods.{HoodView, IsHood, Covers, AreOccurrences, listed_of, clauses_at_home}
@@ -116,6 +117,32 @@ module _ (f : Formula) (rules : Rules) (e : Entry) (h : HoodView) (is : IsHood h
         | inr i ↦ covered y i
       ] in
       let r = listed-among h.cells y c in (r.0, held y ∙ r.1)
+
+  in_cell : (j : ℕ) (d : CellView) → j < length h.cells → (i : ℕ) (c : Named) → i < length (get_or h.cells j d).clauses
+      → Contains f.clauses (get_or (get_or h.cells j d).clauses i c) × (has_variable (get_or h.cells j d).variable (get_or (get_or h.cells j d).clauses i c).clause ≡ true)
+  in_cell j d l i c m =
+      let cell = get_or h.cells j d in
+      of_filter (λ (x : Named). has_variable cell.variable x.clause) f.clauses (get_or cell.clauses i c)
+      (subst (λ (cs : List Named). Contains cs (get_or cell.clauses i c)) (all j d l) (Contains-get_or cell.clauses i c m))
+
+  -- what `apply` requires
+  pub legal-change : IsFormula f → e ≡ numbered f.next e → IsChange h.cells e
+  legal-change v n = record {
+    gone_within = λ j d l. gone_covered (get_or (gone_clauses e) j d) (Contains-get_or (gone_clauses e) j d l);
+    new_within = λ j d l. new_covered (get_or (new_clauses e) j d) (Contains-get_or (new_clauses e) j d l);
+    named = λ j d l i c m q g o s.
+        let here = in_cell j d l i c m in
+        let gone = get_or (gone_clauses e) q g in
+        let stood = old-in f.clauses rules e legal (at-commit h.centre e at) gone (gone-old e gone (Contains-get_or (gone_clauses e) q g o)) in
+        let same = same_number f.clauses (get_or (get_or h.cells j d).clauses i c) gone v.rising here.0 stood s in
+        subst (λ (x : Named). has_variable (get_or h.cells j d).variable x.clause ≡ true) same here.1;
+    above = λ j d l i c m q b o.
+        let here = in_cell j d l i c m in
+        let below = below_at f (get_or (get_or h.cells j d).clauses i c) v here.0 in
+        let next : f.next ≤ (get_or (new_clauses e) q b).number = new-numbers f.next e n (get_or (new_clauses e) q b) (Contains-get_or (new_clauses e) q b o) in
+        omega arith;
+    rising = new-rise f.next e n;
+  }
 
 -- ---- after the entry
 

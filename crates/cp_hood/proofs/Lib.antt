@@ -2,3 +2,4 @@ pub mod Going
 pub mod Holding
 pub mod Centred
 pub mod Following
+pub mod Turns

@@ -16,7 +16,7 @@ ghost use Rattle.cp_yard.specs.Views.{Note, MetTurn, base_of, held_of, noted, wi
 ghost use Rattle.cp_yard.specs.Rule.{clauses_at};
 ghost use Rattle.cp_hood.specs.Hoods.{AreOccurrences, HoldsJust, IsLegalAt, listed_of};
 ghost use Rattle.cp_hood.specs.Seats.{GoesOn, met_turns, noted_all};
-ghost use Rattle.cp_hood.specs.Commits.{IsCommit, IsRefusal, IsTaken};
+ghost use Rattle.cp_hood.specs.Commits.{IsCommit, IsHoodAfter, IsRefusal, IsTaken};
 
 use crate::answers::CommitAnswer;
 use crate::hood::Hood;
@@ -77,7 +77,7 @@ fn take_turn(yard: &Yard, seat: &mut Seat, tries: u32) -> Result<Book, Held>
     ensures held { IfOk result (λ b. (x : ℕ) (cs : List Named) → held_of x seat.old.view.held ≡ Some cs → cs ≡ clauses_at (base_of b) b.posts x) }
     ensures met { IfErr result (λ m. (met : List ℕ) × (length met + 1 ≡ tries) × (seat.new.view ≡ noted (MetTurn m.by) (noted_all (met_turns met) seat.old.view))) }
 {
-    for _ in 1..tries {
+    for _made in 1..tries {
         if let Ok(book) = yard.try_turn(seat) {
             return Ok(book);
         }
