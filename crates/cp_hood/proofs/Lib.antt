@@ -3,3 +3,4 @@ pub mod Holding
 pub mod Centred
 pub mod Following
 pub mod Turns
+pub mod Outcomes

@@ -50,6 +50,7 @@ pub fn commit(
     ensures commit { (notes : List Note) × (posts : List (ℕ × Post)) × GoesOn seat.old.view seat.new.view notes posts × IsCommit seat.old.view.base seat.old.view.number round tries (entry_of entry) hood.old hood.new notes posts result }
     ensures holds { HoldsJust seat.new.view hood.new.cells }
 {
+    hood.is_hood();
     let mut book = match take_turn(yard, seat, tries) {
         Ok(book) => book,
         Err(met) => return Err(CommitAnswer::TurnHeld { by: met.by }),

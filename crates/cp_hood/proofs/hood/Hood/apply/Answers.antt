@@ -27,6 +27,6 @@ invariant_of-self c =
     let h = c.self.inside in let e = entry_of c.args.entry.now in let i = c.self.invariant in
     let change = subst (λ (h : HoodView). IsChange h.cells e) (sym c.self.view_is) c.requires.change in
     let covers = Covers-after e h.centre h.cells.items c.apply.new.self.items (IsHood-placed h.centre h.at h.cells.items i).centre i.3
-        (λ n m. All-contains (λ (c : Named). All (λ l. IsTrue (contains (variables_of h.cells.items) (variable_of l))) c.clause) (new_clauses e) n change.new_within m)
-        c.apply.ensures.variables c.apply.ensures.lists in
+    (λ n m. All-contains (λ (c : Named). All (λ l. IsTrue (contains (variables_of h.cells.items) (variable_of l))) c.clause) (new_clauses e) n change.new_within m)
+    c.apply.ensures.variables c.apply.ensures.lists in
     IsPlaced-same h.centre h.at h.cells.items c.apply.new.self.items i c.apply.ensures.variables covers

@@ -15,12 +15,12 @@ prepare-requires-clause-ascending c = c.self.invariant.2
 
 pub prepare-requires-clause-within : goal.prepare-requires-clause-within
 prepare-requires-clause-within c =
-    let e = entry_of c.args.entry.now in let rules = c.requires.0 in
-    let legal = subst (λ (h : HoodView). is_legal_in (centre_clauses h) rules e ≡ true) (sym c.self.view_is) c.requires.1.legal in
+    let e = entry_of c.args.entry.now in let rules = c.requires.legal.0 in
+    let legal = subst (λ (h : HoodView). is_legal_in (centre_clauses h) rules e ≡ true) (sym c.self.view_is) c.requires.legal.1.legal in
     λ j d l k x m.
-        let n = get_or (new_clauses e) j d in
-        c.self.invariant.3 _ (in_contains _ _ (new-over (centre_clauses (record { centre = c.self.inside.centre; cells = c.self.inside.cells.items })) rules e legal n
-        (Contains-get_or (new_clauses e) j d l) (get_or n.clause k x) (Contains-get_or n.clause k x m)))
+    let n = get_or (new_clauses e) j d in
+    c.self.invariant.3 _ (in_contains _ _ (new-over (centre_clauses (record { centre = c.self.inside.centre; cells = c.self.inside.cells.items })) rules e legal n
+    (Contains-get_or (new_clauses e) j d l) (get_or n.clause k x) (Contains-get_or n.clause k x m)))
 
 pub invariant_of-self : goal.invariant_of-self
 invariant_of-self c =
