@@ -7,7 +7,7 @@ use Rattle.cp_hood.specs.Hoods.{HoldsJust, IsIdle}
 use Rattle.cp_hood.specs.Seats.{GoesOn}
 use Rattle.cp_hood.proofs.Holding.{listed-last, front-ascends, HoldsJust-unlocked, IsIdle-none, none-left}
 use Rattle.cp_hood.proofs.Going.{GoesOn-then, GoesOn-unlocked}
-use Rattle.cp_hood.proofs.locking.release.Goals as goal
+use Rattle.cp_hood.proofs.locking.give_back.Goals as goal
 
 pub unlock-requires-clause-held : goal.unlock-requires-clause-held
 unlock-requires-clause-held c = let i = c.loop-cell.invariant in let rest : List CellView = c.pop.new.self.items in let cell : CellView = c.in-Some.cell in
