@@ -1,12 +1,12 @@
 -- The locks of a neighbourhood: those of the variables below the centre, the centre, and those above it.
-use Rattle.std.proofs.Common.{◌≡◌, ◌≢◌, ℕ, zero, suc, ◌+◌, ◌<◌, ◌≤◌, Bool, true, false, cond, not, eqb, List, [], ◌∷◌, ◌++◌, map, length, get_or, Option, Some, None, refl, sym, ap, ◌∙◌, subst, inl, inr, arith, append_assoc, append-nil, length-append}
+use Rattle.std.proofs.Common.{◌≡◌, ℕ, suc, ◌<◌, ◌≤◌, Bool, true, false, cond, not, eqb, List, [], ◌∷◌, ◌++◌, length, get_or, Some, None, refl, sym, ap, ◌∙◌, subst, inl, inr, arith, append_assoc, append-nil, length-append}
 use Rattle.std.proofs.Math.Seq.{get_or-append_seam}
 use lib.ListN.{length-map}
-use Rattle.std.specs.Prelude.{◌==◌, IsTrue}
+use Rattle.std.specs.Prelude.{◌==◌}
 use Rattle.std.specs.List.{Contains, filter}
 use Rattle.std.proofs.lemmas.Bool.{eq-eqb, ne_eqb, not_from_false, cases_eq}
 use Rattle.std.proofs.lemmas.List.{map-append}
-use Rattle.std.proofs.lemmas.List.Elements.{All-push, All-contains, Contains-get_or, filter-append, Contains-append_left, Contains-append_right}
+use Rattle.std.proofs.lemmas.List.Elements.{All-push, All-contains, filter-append, Contains-append_left, Contains-append_right}
 use Rattle.cp_logic.specs.declared.named.Named.{Named}
 use Rattle.cp_logic.specs.Clauses.{contains, has_variable, IsAscending}
 use Rattle.cp_logic.specs.Formulas.{occurrences, variables_in, neighbourhood}
@@ -17,8 +17,8 @@ use Rattle.cp_logic.proofs.Eliminations.{filter_all}
 use Rattle.cp_occ.specs.Cells.{CellView, IsOf, IsListed, variables_of}
 use Rattle.cp_yard.specs.Views.{Note, Got, Met, SeatView, held_of, lock, noted, with_lock}
 use Rattle.cp_yard.proofs.Lists.{held_of-same, held_of-other}
-use Rattle.cp_hood.specs.Hoods.{HoodView, listed_of, clauses_at_home, Covers, HoldsJust, IsIdle}
-use Rattle.cp_hood.specs.Seats.{GoesOn, with_locks}
+use Rattle.cp_hood.specs.Hoods.{listed_of, clauses_at_home, Covers, HoldsJust, IsIdle}
+use Rattle.cp_hood.specs.Seats.{with_locks}
 use Rattle.cp_hood.specs.Tries.{other_variables, other_cells, gots, IsWhole, IsCut}
 use Rattle.cp_hood.proofs.Holding.{listed-here, listed-later, listed-front, listed-last}
 

@@ -1,5 +1,5 @@
 -- The variables of a cell's neighbourhood: how they are found, how many there are, and where they lie.
-use Rattle.std.proofs.Common.{◌≡◌, ℕ, ◌+◌, ◌-◌, ◌<◌, ◌≤◌, eqb, List, [], ◌∷◌, ◌++◌, map, length, get_or, refl, sym, ap, ◌∙◌, subst, inl, inr, arith, IsPermutation}
+use Rattle.std.proofs.Common.{◌≡◌, ℕ, ◌+◌, ◌-◌, ◌<◌, ◌≤◌, eqb, List, ◌∷◌, map, length, get_or, sym, ap, ◌∙◌, subst, inl, inr, arith, IsPermutation}
 use Rattle.std.specs.Prelude.{nat_lt}
 use Rattle.std.specs.List.{All, Contains, flat_map, dedup}
 use Rattle.std.specs.List.Sorted.{IsSorted}

@@ -1,5 +1,5 @@
 -- Rows of locks: what a seat holds after them, and what it noted.
-use Rattle.std.proofs.Common.{◌≡◌, ◌≢◌, ℕ, zero, suc, ◌+◌, ◌-◌, ◌<◌, ◌≤◌, List, [], ◌∷◌, ◌++◌, length, take, drop, get_or, Some, None, refl, sym, ap, ◌∙◌, subst, inl, inr, arith, length-drop, take-suc}
+use Rattle.std.proofs.Common.{◌≡◌, ℕ, zero, suc, ◌+◌, ◌-◌, ◌<◌, ◌≤◌, List, [], ◌∷◌, ◌++◌, length, take, drop, get_or, refl, sym, ap, ◌∙◌, inl, inr, arith, length-drop, take-suc}
 use Rattle.std.proofs.Math.Seq.{split_at}
 use Rattle.std.specs.List.{Contains}
 use Rattle.std.proofs.lemmas.List.{take_all}
@@ -8,7 +8,7 @@ use Rattle.cp_logic.specs.Clauses.{IsAscending}
 use Rattle.cp_logic.proofs.Members.{none_in, in_here, in_later, in_cases}
 use Rattle.cp_logic.proofs.Ascending.{below_others}
 use Rattle.cp_occ.specs.Cells.{CellView, variables_of}
-use Rattle.cp_yard.specs.Views.{Note, Got, SeatView, held_of, with_lock}
+use Rattle.cp_yard.specs.Views.{Got, SeatView, held_of, with_lock}
 use Rattle.cp_yard.proofs.Lists.{held_of-other}
 use Rattle.cp_hood.specs.Seats.{GoesOn, with_locks}
 use Rattle.cp_hood.specs.Tries.{gots}

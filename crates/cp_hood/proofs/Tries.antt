@@ -1,24 +1,23 @@
 -- What became of the two rows of a neighbourhood: that of the variables below the centre, and that of those above it.
-use Rattle.std.proofs.Common.{◌≡◌, ℕ, ◌+◌, ◌-◌, ◌<◌, ◌≤◌, List, [], ◌∷◌, ◌++◌, length, take, drop, get_or, None, Ok, Err, refl, sym, ap, ◌∙◌, subst, inl, inr, append-nil}
+use Rattle.std.proofs.Common.{◌≡◌, ℕ, ◌+◌, ◌-◌, ◌<◌, ◌≤◌, List, [], ◌∷◌, ◌++◌, length, take, drop, get_or, None, refl, sym, ap, ◌∙◌, subst, append-nil}
 use Rattle.std.specs.Prelude.{IsTrue}
 use Rattle.std.specs.List.{All, Contains}
 use Rattle.std.proofs.lemmas.List.Elements.{All-contains, Contains-append_left, Contains-append_right}
 use Rattle.cp_logic.specs.Clauses.{contains, IsAscending}
 use Rattle.cp_logic.specs.Formulas.{neighbourhood}
-use Rattle.cp_logic.specs.Journals.{Post}
 use Rattle.cp_logic.proofs.Members.{in_later, contains-in}
 use Rattle.cp_logic.proofs.SetFacts.{IsAscending-clause_of}
 use Rattle.cp_occ.specs.Cells.{CellView, IsListed, variables_of}
 use Rattle.cp_yard.specs.Views.{Base, Note, Got, Met, SeatView, held_of, noted}
 use Rattle.cp_hood.specs.declared.answers.HoodAnswer.{HoodAnswer}
 use Rattle.cp_hood.specs.declared.answers.HoodAnswer.TheVariants.{Busy, Wide, NoMemory}
-use Rattle.cp_hood.specs.Hoods.{HoodView, Covers, HoldsJust}
+use Rattle.cp_hood.specs.Hoods.{Covers, HoldsJust}
 use Rattle.cp_hood.specs.Seats.{GoesOn, with_locks}
 use Rattle.cp_hood.specs.Rows.{IsRow, IsCutRow, IsRowAnswer}
-use Rattle.cp_hood.specs.Tries.{gots, IsWhole, IsCut, IsTry}
+use Rattle.cp_hood.specs.Tries.{gots, IsWhole, IsCut}
 use Rattle.cp_hood.proofs.Going.{GoesOn-then, GoesOn-back, GoesOn-noted}
 use Rattle.cp_hood.proofs.Rows.{GoesOn-locks, split-around}
-use Rattle.cp_hood.proofs.Neighbours.{HoldsJust-noted, below-ascends, below-held, low-ascends, high-ascends, low-free, high-free, low-cut, high-cut, above-ascends, above-held, whole, centre-within, centre-at, centre-covers}
+use Rattle.cp_hood.proofs.Neighbours.{HoldsJust-noted, below-ascends, below-held, low-free, high-free, low-cut, high-cut, above-ascends, above-held, whole, centre-within, centre-at, centre-covers}
 
 -- the seat holds the centre, and the variables of its neighbourhood are these, the centre and those
 pub record Around (c : CellView) (low high vars : List ℕ) (v : SeatView) : Type 0 where

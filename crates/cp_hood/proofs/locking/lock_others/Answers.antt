@@ -1,11 +1,11 @@
-use Rattle.std.proofs.Common.{rules, ◌≡◌, ℕ, ◌+◌, ◌-◌, ◌<◌, ◌≤◌, length, take, drop, List, [], ◌∷◌, ◌++◌, Err, sym, ap, ◌∙◌, subst, get_or, arith}
+use Rattle.std.proofs.Common.{◌≡◌, ℕ, ◌<◌, length, take, List, ◌∷◌, Err, sym, ap, ◌∙◌, subst, get_or, arith}
 use Rattle.cp_hood.specs.Hoods.{Covers}
 use Rattle.cp_hood.proofs.Rows.{length-front}
 use Rattle.cp_logic.specs.Clauses.{contains, IsAscending}
 use Rattle.cp_logic.proofs.Members.{in_contains}
 use Rattle.cp_logic.proofs.SetFacts.{IsAscending-clause_of}
 use Rattle.cp_occ.specs.Cells.{CellView, variables_of}
-use Rattle.cp_yard.specs.Views.{Note, Got, SeatView}
+use Rattle.cp_yard.specs.Views.{Got, SeatView}
 use Rattle.cp_hood.specs.declared.answers.HoodAnswer.{HoodAnswer}
 use Rattle.cp_hood.specs.Tries.{IsTry}
 use Rattle.cp_hood.proofs.Neighbours.{low-ascends, high-ascends, centre-is_near}

@@ -1,12 +1,10 @@
-use Rattle.std.proofs.Common.{rules, ◌≡◌, ℕ, ◌+◌, ◌<◌, suc, length, List, [], ◌∷◌, ◌++◌, take, drop, slice_index_or, None, sym, ap, ◌∙◌, subst, append_assoc, arith}
+use Rattle.std.proofs.Common.{rules, ◌≡◌, ℕ, ◌<◌, suc, length, List, [], ◌∷◌, ◌++◌, drop, slice_index_or, sym, ap, ◌∙◌, subst, append_assoc}
 use Rattle.std.specs.List.{Contains}
 use Rattle.std.proofs.lemmas.List.{map-append}
 use Rattle.std.proofs.lemmas.List.Elements.{Contains-get_or}
 use Rattle.cp_logic.proofs.Members.{in_contains}
-use Rattle.cp_occ.specs.Cells.{CellView, variables_of}
+use Rattle.cp_occ.specs.Cells.{CellView}
 use Rattle.cp_yard.specs.Views.{Met, SeatView, held_of, noted, with_lock}
-use Rattle.cp_hood.specs.Rows.{IsRow, IsCutRow}
-use Rattle.cp_hood.specs.Seats.{with_locks}
 use Rattle.cp_hood.proofs.Rows.{held_of-locks, next-free, with_locks-snoc, take-next, split-next}
 use Rattle.cp_hood.proofs.locking.lock_row.Goals as goal
 

@@ -1,4 +1,4 @@
-use Rattle.std.proofs.Common.{◌≡◌, ℕ, ◌≤◌, List, [], ◌∷◌, length, sym, ap, ◌∙◌, subst, All}
+use Rattle.std.proofs.Common.{ℕ, ◌≤◌, List, [], ◌∷◌, length, sym, ap, ◌∙◌, subst, All}
 use Rattle.cp_logic.specs.Formulas.{neighbourhood}
 use Rattle.cp_occ.specs.Cells.{CellView}
 use Rattle.cp_yard.specs.Views.{Base, Got, SeatView}
