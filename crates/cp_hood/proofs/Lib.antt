@@ -4,3 +4,7 @@ pub mod Centred
 pub mod Following
 pub mod Turns
 pub mod Outcomes
+pub mod Rows
+pub mod Neighbours
+pub mod Tries
+pub mod Ranges
