@@ -132,7 +132,7 @@ legal-replaces f rules e v h = record {
 }
 
 -- the new clauses have the next numbers
-new-numbers : (next : ℕ) (e : Entry) → e ≡ numbered next e → (n : Named) → Contains (new_clauses e) n → next ≤ n.number
+pub new-numbers : (next : ℕ) (e : Entry) → e ≡ numbered next e → (n : Named) → Contains (new_clauses e) n → next ≤ n.number
 new-numbers next (Taut gone) e n i = absurd (none_in n i)
 new-numbers next (Subsume by gone) e n i = absurd (none_in n i)
 new-numbers next (Strengthen by on l new) e n i =
@@ -151,7 +151,7 @@ renumbered-rise n (c ∷ cs) =
     subst (λ m. n < m) d.2 (omega arith))
     (renumbered-rise (n + 1) cs)
 
-new-rise : (next : ℕ) (e : Entry) → e ≡ numbered next e → IsAscending (numbers_of (new_clauses e))
+pub new-rise : (next : ℕ) (e : Entry) → e ≡ numbered next e → IsAscending (numbers_of (new_clauses e))
 new-rise next (Taut gone) e = tt
 new-rise next (Subsume by gone) e = tt
 new-rise next (Strengthen by on l new) e = (refl, tt)

@@ -1,0 +1,77 @@
+//! A hood, whose cells a seat has under their locks.
+ghost use Rattle.std.specs.Prelude.{◌≡◌, OnOk, IfOk};
+ghost use Rattle.cp_logic.specs.declared.settings.Rules.{Rules};
+ghost use Rattle.cp_logic.specs.Views.{entry_of};
+ghost use Rattle.cp_occ.specs.Changes.{places_of, HasRoom, IsChange};
+ghost use Rattle.cp_hood.specs.Hoods.{centre_clauses, IsHood, IsLegalAt};
+ghost use Rattle.cp_hood.specs.Commits.{IsHoodAfter, IsSameHood};
+
+use cp_logic::Entry;
+use cp_occ::{Cell, Cells, Prepared};
+use std::alloc::{AllocError, Global};
+use std::marker::Model;
+
+/// The cells of a variable, the centre, and of its neighbours, upwards by variable. Its seat holds their locks.
+#[derive(Drop)]
+pub struct Hood {
+    pub(crate) centre: u32,
+    // The index of the centre's cell.
+    pub(crate) at: usize,
+    pub(crate) cells: Cells,
+}
+
+impl Model for Hood {
+    ghost use Rattle.std.specs.Prelude.{◌≡◌, ◌<◌, length, slice_index_or};
+    ghost use Rattle.cp_logic.specs.Clauses.{IsAscending};
+    ghost use Rattle.cp_occ.specs.Cells.{variables_of};
+    ghost use Rattle.cp_hood.specs.Hoods.{HoodView, Covers};
+
+    ghost Value = { HoodView };
+
+    ghost view = { λ h. record { centre = h.centre; cells = h.cells.items } };
+
+    ghost invariant = { λ h.
+        (h.at < length h.cells.items) × ((d : _) → (slice_index_or h.cells.items h.at d).variable ≡ h.centre)
+        × IsAscending (variables_of h.cells.items) × Covers h.centre h.cells.items };
+}
+
+impl Hood {
+    /// The cell of the centre: all clauses that have the variable.
+    pub fn centre(&self) -> &Cell
+        ensures variable { result.now.variable ≡ self.now.centre }
+        ensures clauses { result.now.clauses ≡ centre_clauses self.now }
+    {
+        match self.cells.get(self.at) {
+            Some(cell) => cell,
+            None => unreachable!(),
+        }
+    }
+
+    /// Takes all memory that the cells need for the entry, which fits at the centre: places of its new clauses, and room in the
+    /// cells of their variables. The error comes only for want of memory. The cells list what they listed, also after an error.
+    pub fn prepare(&mut self, alloc: Global, entry: &Entry) -> Result<Prepared, AllocError>
+        requires legal { (rules : Rules) × IsLegalAt rules self.old (entry_of entry.now) }
+        ensures same { IsSameHood self.old self.new }
+        ensures places { IfOk result (λ p. p ≡ places_of (entry_of entry.now)) }
+        ensures room { OnOk result (HasRoom self.new.cells (entry_of entry.now)) }
+    {
+        self.cells.prepare(alloc, entry)
+    }
+
+    // What was prepared for the entry puts its new clauses into the cells, and the clauses that it removes go.
+    pub(crate) fn apply(&mut self, entry: &Entry, prepared: Prepared)
+        requires change { IsChange self.old.cells (entry_of entry.now) }
+        requires places { prepared ≡ places_of (entry_of entry.now) }
+        requires room { HasRoom self.old.cells (entry_of entry.now) }
+        ensures { IsHoodAfter (entry_of entry.now) self.old self.new }
+    {
+        self.cells.apply(entry, prepared);
+    }
+
+    // The cells are those of a hood.
+    pub(crate) fn is_hood(&self)
+        ensures { IsHood self.now }
+    {
+        let _ = &self.at;
+    }
+}
