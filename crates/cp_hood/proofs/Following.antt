@@ -181,19 +181,29 @@ pub held-follow : (e : Entry) (ks : List Lock) (old new : List CellView) → ((x
     → (x : ℕ) → held_of x (locks_after e ks) ≡ listed_of x new
 held-follow e ks old new h v l x = held-after e ks x ∙ ap (option_map (λ cs. after cs x e)) (h x) ∙ sym (listed-map (λ y cs. after cs y e) old new v l x)
 
--- cells that list what they listed cover what they covered
+-- cells that list what they listed
+pub home-same : (x : ℕ) (old new : List CellView) → variables_of new ≡ variables_of old → lists_of new ≡ lists_of old → clauses_at_home x new ≡ clauses_at_home x old
+home-same x [] [] v l = refl
+home-same x [] (c ∷ cs) v l = cc
+home-same x (c ∷ cs) [] v l = cc
+home-same x (c ∷ cs) (d ∷ ds) v l =
+    let same : d.variable ≡ c.variable = cc in
+    let list : d.clauses ≡ c.clauses = cc in
+    let rest : clauses_at_home x ds ≡ clauses_at_home x cs = home-same x cs ds (cc) (cc) in
+    λ i. cond (eqb (same i) x) (list i) (rest i)
+
+pub listed-same : (x : ℕ) (old new : List CellView) → variables_of new ≡ variables_of old → lists_of new ≡ lists_of old → listed_of x new ≡ listed_of x old
+listed-same x [] [] v l = refl
+listed-same x [] (c ∷ cs) v l = cc
+listed-same x (c ∷ cs) [] v l = cc
+listed-same x (c ∷ cs) (d ∷ ds) v l =
+    let same : d.variable ≡ c.variable = cc in
+    let list : d.clauses ≡ c.clauses = cc in
+    let rest : listed_of x ds ≡ listed_of x cs = listed-same x cs ds (cc) (cc) in
+    λ i. cond (eqb (same i) x) (Some (list i)) (rest i)
+
 pub Covers-same : (x : ℕ) (old new : List CellView) → variables_of new ≡ variables_of old → lists_of new ≡ lists_of old → Covers x old → Covers x new
-Covers-same x old new v l covers = λ y t. subst (λ vs. contains vs y ≡ true) (sym v) (covers y (subst (λ (ns : List Named). contains (variables_in ns) y ≡ true) (home old new v l) t))
-  where
-    home : (old new : List CellView) → variables_of new ≡ variables_of old → lists_of new ≡ lists_of old → clauses_at_home x new ≡ clauses_at_home x old
-    home [] [] v l = refl
-    home [] (c ∷ cs) v l = cc
-    home (c ∷ cs) [] v l = cc
-    home (c ∷ cs) (d ∷ ds) v l =
-        let same : d.variable ≡ c.variable = cc in
-        let list : d.clauses ≡ c.clauses = cc in
-        let rest : clauses_at_home x ds ≡ clauses_at_home x cs = home cs ds (cc) (cc) in
-        λ i. cond (eqb (same i) x) (list i) (rest i)
+Covers-same x old new v l covers = λ y t. subst (λ vs. contains vs y ≡ true) (sym v) (covers y (subst (λ (ns : List Named). contains (variables_in ns) y ≡ true) (home-same x old new v l) t))
 
 -- the hood goes on covering its centre
 pub Covers-after : (e : Entry) (x : ℕ) (old new : List CellView) → contains (variables_of old) x ≡ true → Covers x old

@@ -44,7 +44,7 @@ pub posts-made : (b c : BookView) (e : Entry) (worker number round : ℕ) → c 
 posts-made b c e worker number round p n s = ap (λ (z : BookView). z.posts) p ∙ (λ i. b.posts ++ (let q : Post = record { worker = n i; round = round; entry = sym s i } in q) ∷ [])
 
 same_hood : (h : HoodView) → IsSameHood h h
-same_hood h = record { centre = refl; variables = refl; lists = refl }
+same_hood h = record { centre = refl; clauses = refl; variables = refl; lists = refl }
 
 -- each try met a seat
 module _ (v w : SeatView) (e : Entry) (h : HoodView) (round tries by : ℕ) (met : List ℕ) (many : length met + 1 ≡ tries) (is : w ≡ noted (MetTurn by) (noted_all (met_turns met) v)) where

@@ -22,7 +22,7 @@ use Rattle.cp_occ.specs.Changes.{lists_after}
 use Rattle.cp_yard.specs.Views.{Note, GotTurn, MetTurn, SeatView, noted, with_turn, without_turn, with_post}
 use Rattle.cp_hood.specs.Hoods.{HoldsJust}
 use Rattle.cp_hood.specs.Seats.{GoesOn, met_turns, noted_all}
-use Rattle.cp_hood.proofs.Following.{held-follow}
+use Rattle.cp_hood.proofs.Following.{held-follow, listed-same}
 
 -- ---- the seat
 
@@ -37,6 +37,22 @@ pub noted-push : (v : SeatView) (met : List ℕ) (by : ℕ) → noted (MetTurn b
 unfolding with_notes
 noted-push v met by = ap (λ ns. with_notes ns v)
     (append_assoc v.own.notes (met_turns met) (MetTurn by ∷ []) ∙ ap (λ ns. v.own.notes ++ ns) (sym (map-append MetTurn met (by ∷ []))))
+
+-- cells of the same variables are within the same range
+in_range : (n : ℕ) (old new : List CellView) → variables_of new ≡ variables_of old → All (λ c. c.variable ≤ n) old → All (λ c. c.variable ≤ n) new
+in_range n old new vs h = λ k d l.
+    let long : length new ≡ length old = sym (length-map new (λ (c : CellView). c.variable)) ∙ ap length vs ∙ length-map old (λ (c : CellView). c.variable) in
+    let inside : k < length old = omega arith in
+    let same : (get_or new k d).variable ≡ (get_or old k d).variable =
+    sym (get_or-map (λ (c : CellView). c.variable) new k d 0 l) ∙ ap (λ xs. get_or xs k 0) vs ∙ get_or-map (λ (c : CellView). c.variable) old k d 0 inside in
+    subst (λ x. x ≤ n) (sym same) (h k d inside)
+
+pub HoldsJust-same : (v : SeatView) (old new : List CellView) → variables_of new ≡ variables_of old → lists_of new ≡ lists_of old → HoldsJust v old → HoldsJust v new
+HoldsJust-same v old new vs ls h = record {
+  turn = h.turn;
+  range = in_range v.base.formula.variables old new vs h.range;
+  held = λ x. h.held x ∙ sym (listed-same x old new vs ls);
+}
 
 module _ (v : SeatView) (met : List ℕ) where
   pub GoesOn-met : (by : ℕ) → GoesOn v (noted (MetTurn by) (noted_all (met_turns met) v)) (met_turns met ++ MetTurn by ∷ []) []
@@ -58,12 +74,7 @@ module _ (v : SeatView) (met : List ℕ) where
       → HoldsJust (with_post n p (with_turn j (noted_all (met_turns met) v))) new
   HoldsJust-posted j n p old new h vs ls = record {
     turn = refl;
-    range = λ k d l.
-        let long : length new ≡ length old = sym (length-map new (λ (c : CellView). c.variable)) ∙ ap length vs ∙ length-map old (λ (c : CellView). c.variable) in
-        let inside : k < length old = omega arith in
-        let same : (get_or new k d).variable ≡ (get_or old k d).variable =
-        sym (get_or-map (λ (c : CellView). c.variable) new k d 0 l) ∙ ap (λ xs. get_or xs k 0) vs ∙ get_or-map (λ (c : CellView). c.variable) old k d 0 inside in
-        subst (λ x. x ≤ v.base.formula.variables) (sym same) (h.range k d inside);
+    range = in_range v.base.formula.variables old new vs h.range;
     held = held-follow p.entry v.held old new h.held vs ls;
   }
 

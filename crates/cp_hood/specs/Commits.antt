@@ -16,7 +16,7 @@ use Rattle.cp_yard.specs.declared.yard.Receipt.{Receipt}
 use Rattle.cp_yard.specs.Views.{Base, Note, GotTurn, MetTurn, SeatView, base_of}
 use Rattle.cp_hood.specs.declared.answers.CommitAnswer.{CommitAnswer}
 use Rattle.cp_hood.specs.declared.answers.CommitAnswer.TheVariants.{TurnHeld, Refuted, Spent, Numbers, NoMemory}
-use Rattle.cp_hood.specs.Hoods.{HoodView}
+use Rattle.cp_hood.specs.Hoods.{HoodView, centre_clauses}
 use Rattle.cp_hood.specs.Seats.{met_turns}
 
 -- the formula that the posts leave
@@ -44,6 +44,7 @@ pub record IsHoodAfter (e : Entry) (old new : HoodView) : Type 0 where
 -- the same hood, with what its cells listed
 pub record IsSameHood (old new : HoodView) : Type 0 where
   pub centre : new.centre ≡ old.centre
+  pub clauses : centre_clauses new ≡ centre_clauses old
   pub variables : variables_of new.cells ≡ variables_of old.cells
   pub lists : lists_of new.cells ≡ lists_of old.cells
 

@@ -3,7 +3,8 @@ ghost use Rattle.std.specs.Prelude.{◌≡◌, OnOk, IfOk};
 ghost use Rattle.cp_logic.specs.declared.settings.Rules.{Rules};
 ghost use Rattle.cp_logic.specs.Views.{entry_of};
 ghost use Rattle.cp_occ.specs.Changes.{places_of, HasRoom, IsChange};
-ghost use Rattle.cp_hood.specs.Hoods.{centre_clauses, IsHood, IsLegalAt};
+ghost use Rattle.cp_yard.specs.Views.{SeatView};
+ghost use Rattle.cp_hood.specs.Hoods.{centre_clauses, HoldsJust, IsHood, IsLegalAt};
 ghost use Rattle.cp_hood.specs.Commits.{IsHoodAfter, IsSameHood};
 
 use cp_logic::Entry;
@@ -52,6 +53,7 @@ impl Hood {
     pub fn prepare(&mut self, alloc: Global, entry: &Entry) -> Result<Prepared, AllocError>
         requires legal { (rules : Rules) × IsLegalAt rules self.old (entry_of entry.now) }
         ensures same { IsSameHood self.old self.new }
+        ensures holds { (v : SeatView) → HoldsJust v self.old.cells → HoldsJust v self.new.cells }
         ensures places { IfOk result (λ p. p ≡ places_of (entry_of entry.now)) }
         ensures room { OnOk result (HasRoom self.new.cells (entry_of entry.now)) }
     {

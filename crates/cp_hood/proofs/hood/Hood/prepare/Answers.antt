@@ -1,13 +1,15 @@
-use Rattle.std.proofs.Common.{◌≡◌, true, get_or, ap, sym, subst}
+use Rattle.std.proofs.Common.{refl, ◌≡◌, true, get_or, ap, sym, subst}
 use Rattle.std.proofs.lemmas.List.Elements.{Contains-get_or}
 use Rattle.cp_logic.specs.Clauses.{contains}
 use Rattle.cp_logic.specs.Entries.{new_clauses}
 use Rattle.cp_logic.specs.Views.{entry_of}
 use Rattle.cp_logic.specs.Legality.{is_legal_in}
 use Rattle.cp_logic.proofs.Members.{in_contains}
-use Rattle.cp_hood.specs.Hoods.{HoodView, centre_clauses}
+use Rattle.cp_hood.specs.Hoods.{HoodView, HoldsJust, centre_clauses}
+use Rattle.cp_hood.specs.Commits.{IsSameHood}
 use Rattle.cp_hood.proofs.Centred.{new-over}
-use Rattle.cp_hood.proofs.Following.{IsPlaced-same, Covers-same}
+use Rattle.cp_hood.proofs.Following.{IsPlaced-same, Covers-same, home-same}
+use Rattle.cp_hood.proofs.Turns.{HoldsJust-same}
 use Rattle.cp_hood.proofs.hood.Hood.prepare.Goals as goal
 
 pub prepare-requires-clause-ascending : goal.prepare-requires-clause-ascending
@@ -27,3 +29,19 @@ invariant_of-self c =
     let h = c.self.inside in let i = c.self.invariant in
     IsPlaced-same h.centre h.at h.cells.items c.prepare.new.self.items i c.prepare.ensures.variables
     (Covers-same h.centre h.cells.items c.prepare.new.self.items c.prepare.ensures.variables c.prepare.ensures.lists i.3)
+
+pub returns-clause-same : goal.returns-clause-same
+returns-clause-same c =
+    let h = c.self.inside in
+    subst (λ (o : HoodView). IsSameHood o (record { centre = h.centre; cells = c.prepare.new.self.items })) c.self.view_is
+    (record {
+      centre = refl;
+      clauses = home-same h.centre h.cells.items c.prepare.new.self.items c.prepare.ensures.variables c.prepare.ensures.lists;
+      variables = c.prepare.ensures.variables;
+      lists = c.prepare.ensures.lists;
+    })
+
+pub returns-clause-holds : goal.returns-clause-holds
+returns-clause-holds c = λ v k.
+    HoldsJust-same v c.self.inside.cells.items c.prepare.new.self.items c.prepare.ensures.variables c.prepare.ensures.lists
+    (subst (λ (o : HoodView). HoldsJust v o.cells) (sym c.self.view_is) k)
