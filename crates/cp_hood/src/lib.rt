@@ -13,6 +13,8 @@ mod hood;
 mod locking;
 mod neighbourhood;
 mod posting;
+#[cfg(test)]
+mod tests;
 
 pub use answers::{CommitAnswer, HoodAnswer};
 pub use cp_occ::Prepared;
