@@ -3,7 +3,6 @@ use Rattle.std.specs.Option.{option_map}
 use Rattle.std.specs.List.{find}
 use Rattle.cp_logic.specs.declared.named.Named.{Named}
 use Rattle.cp_logic.specs.Entries.{Block}
-use Rattle.cp_logic.specs.Legality.{is_blocked}
 use Rattle.cp_blocked.specs.Finds.{literal_at, is_blocked_at}
 use Rattle.cp_blocked.proofs.Firsts.{blocked-against, first-blocked, first-none, cell-have}
 use Rattle.cp_blocked.proofs.Scans.{find-here, find-later}
