@@ -3,9 +3,11 @@ use Rattle.std.specs.Prelude.{◌≡◌, ℕ, ◌≤◌, ◌==◌, Option, Some,
 use Rattle.std.specs.List.{All}
 use Rattle.cp_logic.specs.declared.named.Named.{Named}
 use Rattle.cp_logic.specs.declared.settings.Rules.{Rules}
+use Rattle.cp_logic.specs.Clauses.{contains}
+use Rattle.cp_logic.specs.Formulas.{variables_in}
 use Rattle.cp_logic.specs.Entries.{Entry, is_at}
 use Rattle.cp_logic.specs.Legality.{is_legal_in}
-use Rattle.cp_occ.specs.Cells.{CellView}
+use Rattle.cp_occ.specs.Cells.{CellView, variables_of}
 use Rattle.cp_yard.specs.Views.{SeatView, held_of}
 
 pub record HoodView : Type 0 where
@@ -25,6 +27,10 @@ clauses_at_home x (c ∷ cs) = if c.variable == x then c.clauses else clauses_at
 -- the clauses of the centre
 abbrev pub centre_clauses : HoodView → List Named
 centre_clauses h = clauses_at_home h.centre h.cells
+
+-- each variable of the clauses of x is that of one of the cells
+abbrev pub Covers : ℕ → List CellView → Type 0
+Covers x cells = (y : ℕ) → IsTrue (contains (variables_in (clauses_at_home x cells)) y) → IsTrue (contains (variables_of cells) y)
 
 -- the seat has no turn, and holds just the variables of these cells, which are variables of its yard, with what they list
 pub record HoldsJust (v : SeatView) (cells : List CellView) : Type 0 where

@@ -24,7 +24,7 @@ impl Model for Hood {
     ghost use Rattle.std.specs.Prelude.{◌≡◌, ◌<◌, length, slice_index_or};
     ghost use Rattle.cp_logic.specs.Clauses.{IsAscending};
     ghost use Rattle.cp_occ.specs.Cells.{variables_of};
-    ghost use Rattle.cp_hood.specs.Hoods.{HoodView};
+    ghost use Rattle.cp_hood.specs.Hoods.{HoodView, Covers};
 
     ghost Value = { HoodView };
 
@@ -32,7 +32,7 @@ impl Model for Hood {
 
     ghost invariant = { λ h.
         (h.at < length h.cells.items) × ((d : _) → (slice_index_or h.cells.items h.at d).variable ≡ h.centre)
-        × IsAscending (variables_of h.cells.items) };
+        × IsAscending (variables_of h.cells.items) × Covers h.centre h.cells.items };
 }
 
 impl Hood {
