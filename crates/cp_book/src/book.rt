@@ -225,8 +225,8 @@ impl Book {
         (self.formula, self.journal, self.stack)
     }
 
-    // The least number of an empty clause, if there is one.
-    fn least_empty(&self) -> Option<u64>
+    /// The least number of an empty clause among the current ones, or `None` where no clause is empty.
+    pub fn least_empty(&self) -> Option<u64>
         ensures { result ≡ least_empty (current self.now).clauses }
     {
         self.empty

@@ -1,5 +1,5 @@
 -- How a seat goes on.
-use Rattle.std.proofs.Common.{◌≡◌, ℕ, List, [], ◌∷◌, ◌++◌, append_assoc, append-nil, refl, sym, ap, ◌∙◌}
+use Rattle.std.proofs.Common.{ℕ, List, [], ◌∷◌, ◌++◌, append_assoc, append-nil, refl, sym, ap, ◌∙◌}
 use Rattle.cp_logic.specs.declared.named.Named.{Named}
 use Rattle.cp_logic.specs.Journals.{Post}
 use Rattle.cp_yard.specs.Views.{Note, Got, SeatView, noted, with_lock, unlocked}
@@ -27,3 +27,15 @@ GoesOn-noted n v = record { base = refl; number = refl; made = refl; own = refl;
 
 pub GoesOn-locked : (x : ℕ) (cs : List Named) (v : SeatView) → GoesOn v (with_lock x cs v) (Got x cs ∷ []) []
 GoesOn-locked x cs v = record { base = refl; number = refl; made = refl; own = refl; others = refl; notes = refl; posts = sym (append-nil v.own.posts) }
+
+-- and then with no note and no post
+pub GoesOn-back : (u v w : SeatView) (ns : List Note) (ps : List (ℕ × Post)) → GoesOn u v ns ps → GoesOn v w [] [] → GoesOn u w ns ps
+GoesOn-back u v w ns ps g h = record {
+  base = h.base ∙ g.base;
+  number = h.number ∙ g.number;
+  made = h.made ∙ g.made;
+  own = h.own ∙ g.own;
+  others = h.others ∙ g.others;
+  notes = h.notes ∙ append-nil v.own.notes ∙ g.notes;
+  posts = h.posts ∙ append-nil v.own.posts ∙ g.posts;
+}

@@ -1,5 +1,5 @@
 -- What a seat holds that holds just the variables of ascending cells.
-use Rattle.std.proofs.Common.{◌≡◌, ◌≢◌, ℕ, zero, suc, ◌+◌, ◌<◌, ◌≤◌, Bool, true, false, cond, eqb, List, [], ◌∷◌, ◌++◌, length, length-append, get_or, Option, Some, None, refl, sym, ap, ◌∙◌, subst, inl, inr, arith}
+use Rattle.std.proofs.Common.{◌≡◌, ◌≢◌, ℕ, zero, suc, ◌<◌, ◌≤◌, Bool, cond, eqb, List, [], ◌∷◌, ◌++◌, length, length-append, get_or, Option, Some, None, refl, sym, ap, ◌∙◌, subst, inl, inr, arith}
 use lib.ListN.{get_or-append}
 use Rattle.std.specs.List.{All, Contains}
 use Rattle.std.proofs.lemmas.Bool.{eq-eqb, ne_eqb, cases_eq}
@@ -14,10 +14,10 @@ use Rattle.cp_yard.specs.Views.{Lock, SeatView, held_of, without_lock, unlocked}
 use Rattle.cp_yard.proofs.Lists.{held_of-without, held_of-others}
 use Rattle.cp_hood.specs.Hoods.{listed_of, clauses_at_home, HoldsJust, IsIdle}
 
-listed-here : (x : ℕ) (c : CellView) (cs : List CellView) → c.variable ≡ x → listed_of x (c ∷ cs) ≡ Some c.clauses
+pub listed-here : (x : ℕ) (c : CellView) (cs : List CellView) → c.variable ≡ x → listed_of x (c ∷ cs) ≡ Some c.clauses
 listed-here x c cs e = ap (λ (b : Bool). cond b (Some c.clauses) (listed_of x cs)) (eq-eqb c.variable x e)
 
-listed-later : (x : ℕ) (c : CellView) (cs : List CellView) → c.variable ≢ x → listed_of x (c ∷ cs) ≡ listed_of x cs
+pub listed-later : (x : ℕ) (c : CellView) (cs : List CellView) → c.variable ≢ x → listed_of x (c ∷ cs) ≡ listed_of x cs
 listed-later x c cs ne = ap (λ (b : Bool). cond b (Some c.clauses) (listed_of x cs)) (ne_eqb c.variable x ne)
 
 -- the variables before the last one are below it
@@ -29,7 +29,7 @@ pub listed-last : (cs : List CellView) (c : CellView) → IsAscending (variables
 listed-last [] c a = listed-here c.variable c [] refl
 listed-last (d ∷ ds) c a = let l = below-last d ds c a in listed-later c.variable d (ds ++ c ∷ []) (λ e. omega arith) ∙ listed-last ds c a.1
 
-listed-front_last : (cs : List CellView) (c : CellView) → IsAscending (variables_of (cs ++ c ∷ [])) → listed_of c.variable cs ≡ None
+pub listed-front_last : (cs : List CellView) (c : CellView) → IsAscending (variables_of (cs ++ c ∷ [])) → listed_of c.variable cs ≡ None
 listed-front_last [] c a = refl
 listed-front_last (d ∷ ds) c a = let l = below-last d ds c a in listed-later c.variable d ds (λ e. omega arith) ∙ listed-front_last ds c a.1
 

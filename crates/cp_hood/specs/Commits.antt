@@ -4,14 +4,16 @@ use Rattle.cp_logic.specs.declared.settings.Stop.{Stop}
 use Rattle.cp_logic.specs.declared.settings.Stop.TheVariants.{Spent as ForBudget, Numbers as ForNumbers, Refuted as ForRefutation}
 use Rattle.cp_logic.specs.Formulas.{Formula, has_empty}
 use Rattle.cp_logic.specs.Entries.{Entry, numbered}
+use Rattle.cp_logic.specs.Legality.{is_legal_in}
 use Rattle.cp_logic.specs.Journals.{Post, folded, commits}
 use Rattle.cp_logic.specs.Sweeps.{is_spent}
 use Rattle.cp_book.specs.Empties.{least_empty}
-use Rattle.cp_book.specs.Answers.{passes_numbers}
+use Rattle.cp_book.specs.Answers.{passes_numbers, answer_to, Posted}
+use Rattle.cp_book.specs.Views.{BookView, current}
 use Rattle.cp_occ.specs.Cells.{CellView, variables_of, lists_of}
 use Rattle.cp_occ.specs.Changes.{lists_after}
 use Rattle.cp_yard.specs.declared.yard.Receipt.{Receipt}
-use Rattle.cp_yard.specs.Views.{Base, Note, GotTurn, MetTurn, SeatView}
+use Rattle.cp_yard.specs.Views.{Base, Note, GotTurn, MetTurn, SeatView, base_of}
 use Rattle.cp_hood.specs.declared.answers.CommitAnswer.{CommitAnswer}
 use Rattle.cp_hood.specs.declared.answers.CommitAnswer.TheVariants.{TurnHeld, Refuted, Spent, Numbers, NoMemory}
 use Rattle.cp_hood.specs.Hoods.{HoodView}
@@ -51,6 +53,21 @@ IsStopAfter f h e ForRefutation = IsTrue (has_empty (left_by f h).clauses)
 IsStopAfter f h e ForBudget = IsFalse (has_empty (left_by f h).clauses) × IsTrue (is_spent f.rules (commits h))
 IsStopAfter f h e ForNumbers = IsFalse (has_empty (left_by f h).clauses) × IsFalse (is_spent f.rules (commits h)) × IsTrue (passes_numbers (left_by f h) e)
 
+-- why the book takes no entry, or not this one
+abbrev pub IsRefusal : BookView → Entry → CommitAnswer → Type 0
+IsRefusal b e (TurnHeld by) = ⊥
+IsRefusal b e (Refuted empty) = (least_empty (current b).clauses ≡ Some empty) × IsStopAfter (base_of b) b.posts e ForRefutation
+IsRefusal b e (Spent len) = (len ≡ commits b.posts) × IsStopAfter (base_of b) b.posts e ForBudget
+IsRefusal b e (Numbers next) = (next ≡ (current b).next) × IsStopAfter (base_of b) b.posts e ForNumbers
+IsRefusal b e NoMemory = ⊥
+
+-- the book is prepared for the entry, which has its numbers and is legal, and posts it
+pub record IsTaken (b : BookView) (e : Entry) : Type 0 where
+  pub prepared : b.prepared ≡ Some e
+  pub numbered : e ≡ numbered (current b).next e
+  pub legal : IsTrue (is_legal_in (current b).clauses b.rules e)
+  pub answer : answer_to b e ≡ Posted (length b.posts)
+
 -- what a commit of the entry comes to, by its answer: its notes, the seat's new posts, and the hood. A refusal keeps the hood and posts nothing
 abbrev pub IsCommit : Base → ℕ → ℕ → ℕ → Entry → HoodView → HoodView → List Note → List (ℕ × Post) → Result Receipt CommitAnswer → Type 0
 IsCommit f worker round tries e old new notes posts (Ok r) =
@@ -67,4 +84,4 @@ IsCommit f worker round tries e old new notes posts (Err (Numbers next)) =
     (h : List Post) × GetsTurn tries notes h × (next ≡ (left_by f h).next) × IsStopAfter f h e ForNumbers
     × (posts ≡ []) × IsSameHood old new
 IsCommit f worker round tries e old new notes posts (Err NoMemory) =
-    (posts ≡ []) × IsSameHood old new
+    (h : List Post) × GetsTurn tries notes h × (posts ≡ []) × IsSameHood old new

@@ -3,8 +3,8 @@ use Rattle.std.specs.Prelude.{◌≡◌, ℕ, ◌≤◌, ◌==◌, Option, Some,
 use Rattle.std.specs.List.{All}
 use Rattle.cp_logic.specs.declared.named.Named.{Named}
 use Rattle.cp_logic.specs.declared.settings.Rules.{Rules}
-use Rattle.cp_logic.specs.Clauses.{contains}
-use Rattle.cp_logic.specs.Formulas.{variables_in}
+use Rattle.cp_logic.specs.Clauses.{contains, IsAscending}
+use Rattle.cp_logic.specs.Formulas.{occurrences, variables_in}
 use Rattle.cp_logic.specs.Entries.{Entry, is_at}
 use Rattle.cp_logic.specs.Legality.{is_legal_in}
 use Rattle.cp_occ.specs.Cells.{CellView, variables_of}
@@ -31,6 +31,16 @@ centre_clauses h = clauses_at_home h.centre h.cells
 -- each variable of the clauses of x is that of one of the cells
 abbrev pub Covers : ℕ → List CellView → Type 0
 Covers x cells = (y : ℕ) → IsTrue (contains (variables_in (clauses_at_home x cells)) y) → IsTrue (contains (variables_of cells) y)
+
+-- each cell lists those of these clauses that have its variable
+abbrev pub AreOccurrences : List Named → List CellView → Type 0
+AreOccurrences cs cells = All (λ c. c.clauses ≡ occurrences cs c.variable) cells
+
+-- the variables of the cells rise, the centre is one of them, and so is each variable of its clauses
+pub record IsHood (h : HoodView) : Type 0 where
+  pub centre : IsTrue (contains (variables_of h.cells) h.centre)
+  pub ascending : IsAscending (variables_of h.cells)
+  pub covers : Covers h.centre h.cells
 
 -- the seat has no turn, and holds just the variables of these cells, which are variables of its yard, with what they list
 pub record HoldsJust (v : SeatView) (cells : List CellView) : Type 0 where

@@ -2,9 +2,9 @@
 ghost use Rattle.std.specs.Prelude.{◌≡◌, OnOk, IfOk};
 ghost use Rattle.cp_logic.specs.declared.settings.Rules.{Rules};
 ghost use Rattle.cp_logic.specs.Views.{entry_of};
-ghost use Rattle.cp_occ.specs.Changes.{places_of, HasRoom};
-ghost use Rattle.cp_hood.specs.Hoods.{centre_clauses, IsLegalAt};
-ghost use Rattle.cp_hood.specs.Commits.{IsSameHood};
+ghost use Rattle.cp_occ.specs.Changes.{places_of, HasRoom, IsChange};
+ghost use Rattle.cp_hood.specs.Hoods.{centre_clauses, IsHood, IsLegalAt};
+ghost use Rattle.cp_hood.specs.Commits.{IsHoodAfter, IsSameHood};
 
 use cp_logic::Entry;
 use cp_occ::{Cell, Cells, Prepared};
@@ -55,8 +55,23 @@ impl Hood {
         ensures places { IfOk result (λ p. p ≡ places_of (entry_of entry.now)) }
         ensures room { OnOk result (HasRoom self.new.cells (entry_of entry.now)) }
     {
-        let _ = alloc;
-        let _ = entry;
-        Err(AllocError)
+        self.cells.prepare(alloc, entry)
+    }
+
+    // What was prepared for the entry puts its new clauses into the cells, and the clauses that it removes go.
+    pub(crate) fn apply(&mut self, entry: &Entry, prepared: Prepared)
+        requires change { IsChange self.old.cells (entry_of entry.now) }
+        requires places { prepared ≡ places_of (entry_of entry.now) }
+        requires room { HasRoom self.old.cells (entry_of entry.now) }
+        ensures { IsHoodAfter (entry_of entry.now) self.old self.new }
+    {
+        self.cells.apply(entry, prepared);
+    }
+
+    // The cells are those of a hood.
+    pub(crate) fn is_hood(&self)
+        ensures { IsHood self.now }
+    {
+        let _ = &self.at;
     }
 }

@@ -11,6 +11,7 @@
 mod answers;
 mod hood;
 mod locking;
+mod neighbourhood;
 mod posting;
 
 pub use answers::{CommitAnswer, HoodAnswer};

@@ -1,12 +1,19 @@
 //! The locks of a neighbourhood, got by one try each, or none of them.
-ghost use Rattle.std.specs.Prelude.{◌≡◌, ◌≤◌, [], List, IfOk, OnErr};
-ghost use Rattle.cp_yard.specs.Views.{Note};
+ghost use Rattle.std.specs.Prelude.{◌≡◌, ◌≤◌, ◌<◌, ◌+◌, ℕ, [], ◌∷◌, List, length, take, drop, slice_index, None, IfOk, OnOk, IfErr, OnErr, IsTrue};
+ghost use Rattle.std.specs.List.{All};
+ghost use Rattle.cp_logic.specs.Clauses.{contains, IsAscending};
+ghost use Rattle.cp_logic.specs.Formulas.{neighbourhood};
+ghost use Rattle.cp_occ.specs.Cells.{variables_of};
+ghost use Rattle.cp_yard.specs.Views.{Note, Got, held_of};
 ghost use Rattle.cp_hood.specs.Hoods.{HoldsJust, IsIdle};
 ghost use Rattle.cp_hood.specs.Seats.{GoesOn};
+ghost use Rattle.cp_hood.specs.Rows.{IsRow, IsRowAnswer};
 ghost use Rattle.cp_hood.specs.Tries.{IsTry};
 
 use crate::answers::HoodAnswer;
 use crate::hood::Hood;
+use crate::neighbourhood::plan;
+use cp_occ::{Cell, Cells};
 use cp_yard::{Seat, Yard};
 use std::alloc::Global;
 
@@ -31,12 +38,17 @@ pub fn try_hood(
     ensures holds { IfOk result (λ h. HoldsJust seat.new.view h.cells) }
     ensures idle { OnErr result (IsIdle seat.new.view) }
 {
-    let _ = alloc;
-    let _ = yard;
-    let _ = seat;
-    let _ = x;
-    let _ = limit;
-    Err(HoodAnswer::NoMemory)
+    let centre = match yard.try_lock(seat, x) {
+        Ok(cell) => cell,
+        Err(met) => return Err(HoodAnswer::Busy { var: x, by: met.by }),
+    };
+    match plan(alloc, &centre, limit) {
+        Ok((vars, room)) => lock_others(yard, seat, centre, vars.as_slice(), room),
+        Err(answer) => {
+            yard.unlock(seat, x, centre);
+            Err(answer)
+        }
+    }
 }
 
 /// Gives all locks of the hood back. It takes no memory.
@@ -48,9 +60,100 @@ pub fn release(yard: &Yard, seat: &mut Seat, hood: Hood)
     ensures same { GoesOn seat.old.view seat.new.view [] [] }
     ensures idle { IsIdle seat.new.view }
 {
-    let mut cells = hood.cells;
+    give_back(yard, seat, hood.cells);
+}
+
+// Gives the locks of the cells back, the last one first.
+fn give_back(yard: &Yard, seat: &mut Seat, cells: Cells)
+    requires table { seat.old.table ≡ yard.now.table }
+    requires base { seat.old.view.base ≡ yard.now.base }
+    requires ascending { IsAscending (variables_of cells.items) }
+    requires holds { HoldsJust seat.old.view cells.items }
+    ensures table { seat.new.table ≡ seat.old.table }
+    ensures same { GoesOn seat.old.view seat.new.view [] [] }
+    ensures idle { IsIdle seat.new.view }
+{
+    let mut cells = cells;
     while let Some(cell) = cells.pop() {
         let var = cell.var();
         yard.unlock(seat, var, cell);
     }
+}
+
+// Under the lock of the centre tries those of its other neighbours, upwards.
+fn lock_others(
+    yard: &Yard,
+    seat: &mut Seat,
+    centre: Cell,
+    vars: &[u32],
+    room: Cells,
+) -> Result<Hood, HoodAnswer>
+    requires table { seat.old.table ≡ yard.now.table }
+    requires base { seat.old.view.base ≡ yard.now.base }
+    requires holds { HoldsJust seat.old.view (centre ∷ []) }
+    requires variables { vars.now ≡ neighbourhood centre.clauses centre.variable }
+    requires range { All (λ y. (1 ≤ y) × (y ≤ yard.now.base.formula.variables)) vars.now }
+    requires room { (room.items ≡ []) × (length vars.now ≤ room.spare) }
+    ensures table { seat.new.table ≡ seat.old.table }
+    ensures tries { (notes : List Note) × GoesOn seat.old.view seat.new.view notes [] × ((limit : ℕ) → length vars.now ≤ limit → IsTry centre.variable limit (Got centre.variable centre.clauses ∷ notes) result) }
+    ensures holds { IfOk result (λ h. HoldsJust seat.new.view h.cells) }
+    ensures idle { OnErr result (IsIdle seat.new.view) }
+{
+    let x = centre.var();
+    let at = position(vars, x);
+    let mut cells = room;
+    let below = lock_row(yard, seat, &vars[..at], &mut cells);
+    cells.push_reserved(centre);
+    if let Err(answer) = below {
+        give_back(yard, seat, cells);
+        return Err(answer);
+    }
+    if let Err(answer) = lock_row(yard, seat, &vars[at + 1..], &mut cells) {
+        give_back(yard, seat, cells);
+        return Err(answer);
+    }
+    Ok(Hood {
+        centre: x,
+        at,
+        cells,
+    })
+}
+
+// The position of the variable, which is one of these.
+fn position(vars: &[u32], x: u32) -> usize
+    requires ascending { IsAscending vars.now }
+    requires there { IsTrue (contains vars.now x) }
+    ensures within { result < length vars.now }
+    ensures value { slice_index vars.now result ≡ x }
+{
+    match vars.binary_search(&x) {
+        Ok(at) => at,
+        Err(_) => unreachable!(),
+    }
+}
+
+// Tries the locks in order, up to the first that is held, and appends the cells of those that it got.
+fn lock_row(yard: &Yard, seat: &mut Seat, vars: &[u32], cells: &mut Cells) -> Result<(), HoodAnswer>
+    requires table { seat.old.table ≡ yard.now.table }
+    requires ascending { IsAscending vars.now }
+    requires range { All (λ y. (1 ≤ y) × (y ≤ yard.now.base.formula.variables)) vars.now }
+    requires free { (y : ℕ) → IsTrue (contains vars.now y) → held_of y seat.old.view.held ≡ None }
+    requires room { length vars.now ≤ cells.old.spare }
+    ensures table { seat.new.table ≡ seat.old.table }
+    ensures room { cells.old.spare ≤ cells.new.spare + length vars.now }
+    ensures ok { OnOk result (IsRow vars.now seat.old.view seat.new.view cells.old.items cells.new.items) }
+    ensures answer { IfErr result (IsRowAnswer vars.now seat.old.view seat.new.view cells.old.items cells.new.items) }
+{
+    for var in vars {
+        match yard.try_lock(seat, *var) {
+            Ok(cell) => cells.push_reserved(cell),
+            Err(met) => {
+                return Err(HoodAnswer::Busy {
+                    var: *var,
+                    by: met.by,
+                });
+            }
+        }
+    }
+    Ok(())
 }

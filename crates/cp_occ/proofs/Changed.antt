@@ -1,114 +1,145 @@
 -- Cells are changed, one variable of a clause after the other.
 use Rattle.std.proofs.Common.{◌≡◌, ℕ, zero, suc, ◌+◌, ◌<◌, ◌≤◌, Bool, true, false, not, cond, List, [], ◌∷◌, ◌++◌, length, take, drop, map, set, get_or, append_assoc, add-zero, refl, sym, ◌∙◌, ap, subst, inl, inr, arith}
-use Rattle.std.specs.Prelude.{◌==◌, ◌≢◌, ◌-◌, ◌||◌, IsTrue, nat_lt}
+use Rattle.std.specs.Prelude.{◌==◌, ◌≢◌, ◌||◌, IsTrue}
 use Rattle.std.specs.List.{All, Contains, filter}
-use Rattle.std.proofs.Math.Seq.{take-suc}
+use Rattle.std.proofs.Math.Seq.{take-suc, map-set_same}
 use Rattle.std.proofs.lemmas.Bool.{eq-eqb, ne_eqb, eqb-true, ltb-true, false≢true, cases_eq}
-use Rattle.std.proofs.lemmas.List.{append-nil, map-append, length-append, take_all, get_or_default, length-set, get_or-set_same, get_or-set_other}
+use Rattle.std.proofs.lemmas.List.{append-nil, map-append, length-append, take_all, get_or-map, get_or_default, length-set, get_or-set_same, get_or-set_other}
 use Rattle.std.proofs.lemmas.List.Elements.{All-append, All-contains, All-filter, Contains-append_right, Contains-append_cases, Contains-get_or, filter-append}
 use Rattle.cp_logic.specs.declared.named.Named.{Named}
-use Rattle.cp_logic.specs.Literals.{variable_of}
+use Rattle.cp_logic.specs.Literals.{variable_of, IsLiteral}
 use Rattle.cp_logic.specs.Clauses.{contains, has_variable, IsAscending}
-use Rattle.cp_logic.specs.Formulas.{IsWithin, numbers_of, occurrences, without_numbers}
+use Rattle.cp_logic.specs.Formulas.{numbers_of, occurrences, without_numbers}
 use Rattle.cp_logic.specs.Entries.{Entry, gone_clauses, new_clauses}
 use Rattle.cp_logic.specs.Locality.{after}
-use Rattle.cp_logic.proofs.Members.{any_member, all_at, contains-in, in_contains, in_here, in_later, in_cases, in_map, none_in, of_filter}
+use Rattle.cp_logic.proofs.Members.{any_member, all_at, contains-in, in_contains, in_here, in_later, in_cases, in_map, of_map, none_in, of_filter}
 use Rattle.cp_logic.proofs.Ascending.{below_others}
 use Rattle.cp_logic.proofs.Changes.{without_one, without_none, without_both}
-use Rattle.cp_occ.specs.Cells.{CellView, variables_after, AreNumbered, variables_of, lists_of}
-use Rattle.cp_occ.specs.Changes.{Each, IsRoomier, IsWithout, IsWith, IsChanged, lists_after}
-use Rattle.cp_occ.proofs.Numbered.{without-absent}
+use Rattle.cp_occ.specs.Cells.{CellView, variables_after, variables_of, lists_of}
+use Rattle.cp_occ.specs.Changes.{AreOver, Each, IsRoomier, IsWithout, IsWith, IsChanged, lists_after}
+use Rattle.cp_occ.proofs.Numbered.{same_place, without-absent}
 use Rattle.cp_occ.proofs.Entered.{contains-after, rising-after, without-it, with-it, false-from, lent-back}
+
+-- ---- the variables of a clause
+
+-- no literal is of the variable 0
+none-zero : (clause : List ℕ) → All IsLiteral clause → has_variable 0 clause ≡ false
+none-zero clause literals = false-from (has_variable 0 clause) (λ q.
+    let m = any_member (λ l. variable_of l == 0) clause q in
+    let zero-is : variable_of m.0 ≡ 0 = eqb-true (variable_of m.0) 0 m.2 in
+    let low : 2 ≤ m.0 = (All-contains IsLiteral clause m.0 literals m.1).0 in
+    omega arith)
+
+-- they are those that the clause has
+variables-has : (clause : List ℕ) (x : ℕ) → IsAscending clause → All IsLiteral clause → contains (variables_after 0 clause) x ≡ has_variable x clause
+variables-has clause x ascending literals = elim (cases_eq x 0) [
+  | inl e ↦
+      let rest = rising-after 0 clause ascending (λ l i. omega arith) in
+      rw e
+      (false-from (contains (variables_after 0 clause) 0) (λ q. let l : 0 < 0 = rest.1 0 (contains-in (variables_after 0 clause) 0 q) in omega arith)
+      ∙ sym (none-zero clause literals))
+  | inr ne ↦ contains-after 0 clause x ne
+]
+
+-- a clause over these variables has no other
+over-has : (variables clause : List ℕ) (v : ℕ) → AreOver variables clause → has_variable v clause ≡ true → contains variables v ≡ true
+over-has variables clause v over has =
+    let m = any_member (λ l. variable_of l == v) clause has in
+    subst (λ w. contains variables w ≡ true) (eqb-true (variable_of m.0) v m.2) (All-contains (λ l. IsTrue (contains variables (variable_of l))) clause m.0 over m.1)
+
+-- a variable of the cells has a cell
+pub has-cell : (cells : List CellView) (v : ℕ) → contains (variables_of cells) v ≡ true → All (λ (c : CellView). c.variable ≢ v) cells → ⊥
+has-cell cells v has none =
+    let m = of_map (λ (c : CellView). c.variable) cells v (contains-in (variables_of cells) v has) in
+    All-contains (λ (c : CellView). c.variable ≢ v) cells m.0 none m.1 m.2
+
+-- ---- one variable of a clause after the other
 
 -- the cells of the variables that are left are as they were, and the others are changed
 pub record Going (P : CellView → CellView → Type 0) (clause : List ℕ) (old cells : List CellView) (left : List ℕ) : Type 0 where
   pub len : length cells ≡ length old
-  pub numbered : AreNumbered old
+  pub ascending : IsAscending (variables_of old)
+  pub variables : variables_of cells ≡ variables_of old
   pub rising : IsAscending left
-  pub low : (v : ℕ) → Contains left v → 0 < v
-  pub high : (v : ℕ) → Contains left v → v < length old + 1
+  pub over : (v : ℕ) → Contains left v → contains (variables_of old) v ≡ true
   pub has : (v : ℕ) → Contains left v → has_variable v clause ≡ true
-  pub waiting : (k : ℕ) (d : CellView) → k < length old → contains left (k + 1) ≡ true → get_or cells k d ≡ get_or old k d
-  pub done : (k : ℕ) (d : CellView) → k < length old → contains left (k + 1) ≡ false → P (get_or old k d) (get_or cells k d)
+  pub waiting : (k : ℕ) (d : CellView) → k < length old → contains left (get_or old k d).variable ≡ true → get_or cells k d ≡ get_or old k d
+  pub done : (k : ℕ) (d : CellView) → k < length old → contains left (get_or old k d).variable ≡ false → P (get_or old k d) (get_or cells k d)
 
 -- at first no cell is changed, which suits those of no variable of the clause
-pub Going-start : (P : CellView → CellView → Type 0) (clause : List ℕ) (old : List CellView) → AreNumbered old → IsAscending clause → IsWithin (length old) clause
+pub Going-start : (P : CellView → CellView → Type 0) (clause : List ℕ) (old : List CellView) → IsAscending (variables_of old) → IsAscending clause → All IsLiteral clause → AreOver (variables_of old) clause
     → ((k : ℕ) (d : CellView) → k < length old → has_variable (get_or old k d).variable clause ≡ false → P (get_or old k d) (get_or old k d))
     → Going P clause old old (variables_after 0 clause)
-Going-start P clause old numbered ascending within same =
-    let rest = rising-after 0 clause ascending (λ l i. omega arith) in
-    let has : (v : ℕ) → Contains (variables_after 0 clause) v → has_variable v clause ≡ true = λ v i. sym (contains-after 0 clause v (let q : 0 < v = rest.1 v i in omega arith)) ∙ in_contains (variables_after 0 clause) v i in
+Going-start P clause old variables ascending literals over same =
+    let has : (v : ℕ) → Contains (variables_after 0 clause) v → has_variable v clause ≡ true = λ v i. sym (variables-has clause v ascending literals) ∙ in_contains (variables_after 0 clause) v i in
     record {
       len = refl;
-      numbered = numbered;
-      rising = rest.0;
-      low = rest.1;
-      high = λ v i. let m = any_member (λ l. variable_of l == v) clause (has v i) in subst (λ w. w < length old + 1) (eqb-true (variable_of m.0) v m.2) (ltb-true (variable_of m.0) (length old + 1) (all_at (λ l. nat_lt (variable_of l) (length old + 1)) clause m.0 within.1 m.1));
+      ascending = variables;
+      variables = refl;
+      rising = (rising-after 0 clause ascending (λ l i. omega arith)).0;
+      over = λ v i. over-has (variables_of old) clause v over (has v i);
       has = has;
       waiting = λ k d h e. refl;
-      done = λ k d h e. same k d h (ap (λ x. has_variable x clause) (numbered k d h) ∙ sym (contains-after 0 clause (k + 1) (omega arith)) ∙ e);
+      done = λ k d h e. same k d h (sym (variables-has clause (get_or old k d).variable ascending literals) ∙ e);
     }
 
 -- the variables that are left begin with this one
 pub Going-next : (P : CellView → CellView → Type 0) (clause : List ℕ) (old cells : List CellView) (items : List ℕ) (v : ℕ) (left : List ℕ) → Going P clause old cells items → items ≡ v ∷ left → Going P clause old cells (v ∷ left)
 Going-next P clause old cells items v left s e = subst (Going P clause old cells) e s
 
--- the next variable's cell is changed
 module _ (P : CellView → CellView → Type 0) (clause : List ℕ) (old cells : List CellView) (v : ℕ) (left : List ℕ) (s : Going P clause old cells (v ∷ left)) where
-  pub next-low : 0 < v
-  next-low = s.low v (in_here v v left refl)
+  -- the next variable has a cell
+  pub next-ascending : IsAscending (variables_of cells)
+  next-ascending = subst IsAscending (sym s.variables) s.ascending
 
-  pub next-high : v - 1 < length cells
-  next-high = let low = next-low in let high : v < length old + 1 = s.high v (in_here v v left refl) in let len : length cells ≡ length old = s.len in omega arith
+  pub next-over : contains (variables_of cells) v ≡ true
+  next-over = ap (λ vs. contains vs v) s.variables ∙ s.over v (in_here v v left refl)
 
-  pub next-old : v - 1 < length old
-  next-old = let high = next-high in let len : length cells ≡ length old = s.len in omega arith
+  -- its cell is changed
+  module _ (i : ℕ) (bound : i < length cells) (at : (d : CellView) → (get_or cells i d).variable ≡ v) where
+    pub next-old : i < length old
+    next-old = let len : length cells ≡ length old = s.len in omega arith
 
-  at-next : v - 1 + 1 ≡ v
-  at-next = let low = next-low in omega arith
+    old-variable : (d : CellView) → (get_or old i d).variable ≡ v
+    old-variable d =
+        sym (get_or-map (λ (c : CellView). c.variable) old i d 0 next-old) ∙ ap (λ vs. get_or vs i 0) (sym s.variables)
+        ∙ get_or-map (λ (c : CellView). c.variable) cells i d 0 bound ∙ at d
 
-  next-first : contains (v ∷ left) (v - 1 + 1) ≡ true
-  next-first = ap (λ b. b || contains left (v - 1 + 1)) (eq-eqb v (v - 1 + 1) (sym at-next))
+    next-gone : contains left v ≡ false
+    next-gone = false-from (contains left v) (λ q. let l : v < v = below_others v left v s.rising (contains-in left v q) in omega arith)
 
-  next-gone : contains left (v - 1 + 1) ≡ false
-  next-gone = false-from (contains left (v - 1 + 1)) (λ q. let l : v < v - 1 + 1 = below_others v left (v - 1 + 1) s.rising (contains-in left (v - 1 + 1) q) in let e = at-next in omega arith)
+    -- it is as it was
+    pub next-same : (d : CellView) → get_or cells i d ≡ get_or old i d
+    next-same d = s.waiting i d next-old (ap (λ b. b || contains left (get_or old i d).variable) (eq-eqb v (get_or old i d).variable (sym (old-variable d))))
 
-  -- it is as it was
-  pub next-same : (d : CellView) → get_or cells (v - 1) d ≡ get_or old (v - 1) d
-  next-same d = s.waiting (v - 1) d next-old next-first
+    pub next-has_cell : (d : CellView) → has_variable (get_or cells i d).variable clause ≡ true
+    next-has_cell d = ap (λ x. has_variable x clause) (at d) ∙ s.has v (in_here v v left refl)
 
-  pub next-variable : (d : CellView) → (get_or cells (v - 1) d).variable ≡ v
-  next-variable d = ap (λ (c : CellView). c.variable) (next-same d) ∙ s.numbered (v - 1) d next-old ∙ at-next
+    other-left : (k : ℕ) (d : CellView) → k < length old → k ≢ i → contains (v ∷ left) (get_or old k d).variable ≡ contains left (get_or old k d).variable
+    other-left k d h ne =
+        ap (λ b. b || contains left (get_or old k d).variable)
+        (ne_eqb v (get_or old k d).variable (λ e. ne (same_place (λ (c : CellView). c.variable) old k i d s.ascending h next-old (sym e ∙ sym (old-variable d)))))
 
-  pub next-has : has_variable v clause ≡ true
-  next-has = s.has v (in_here v v left refl)
-
-  pub next-has_cell : (d : CellView) → has_variable (get_or cells (v - 1) d).variable clause ≡ true
-  next-has_cell d = ap (λ x. has_variable x clause) (next-variable d) ∙ next-has
-
-  other-left : (k : ℕ) → k ≢ v - 1 → contains (v ∷ left) (k + 1) ≡ contains left (k + 1)
-  other-left k ne = ap (λ b. b || contains left (k + 1)) (ne_eqb v (k + 1) (λ e. let low = next-low in ne (omega arith)))
-
-  pub Going-step : (r e : CellView) → P (get_or cells (v - 1) r) e → Going P clause old (set cells (v - 1) e) left
-  Going-step r e p = record {
-    len = length-set cells (v - 1) e ∙ s.len;
-    numbered = s.numbered;
-    rising = s.rising.1;
-    low = λ w i. s.low w (in_later w v left i);
-    high = λ w i. s.high w (in_later w v left i);
-    has = λ w i. s.has w (in_later w v left i);
-    waiting = λ k d h t. elim (cases_eq k (v - 1)) [
-      | inl q ↦ absurd (false≢true (sym next-gone ∙ subst (λ j. contains left (j + 1) ≡ true) q t))
-      | inr ne ↦ get_or-set_other cells (v - 1) k e d ne ∙ s.waiting k d h (other-left k ne ∙ t)
-    ];
-    done = λ k d h f. elim (cases_eq k (v - 1)) [
-      | inl q ↦
-          subst (λ j. P (get_or old j d) (get_or (set cells (v - 1) e) j d)) (sym q)
-          (subst (λ (c : CellView). P (get_or old (v - 1) d) c) (sym (get_or-set_same cells (v - 1) e d next-high))
-          (subst (λ (c : CellView). P c e) (get_or_default cells (v - 1) r d next-high ∙ next-same d) p))
-      | inr ne ↦ subst (λ (c : CellView). P (get_or old k d) c) (sym (get_or-set_other cells (v - 1) k e d ne)) (s.done k d h (other-left k ne ∙ f))
-    ];
-  }
+    pub Going-step : (r e : CellView) → e.variable ≡ (get_or cells i r).variable → P (get_or cells i r) e → Going P clause old (set cells i e) left
+    Going-step r e same p = record {
+      len = length-set cells i e ∙ s.len;
+      ascending = s.ascending;
+      variables = map-set_same (λ (c : CellView). c.variable) cells i e r same ∙ s.variables;
+      rising = s.rising.1;
+      over = λ w j. s.over w (in_later w v left j);
+      has = λ w j. s.has w (in_later w v left j);
+      waiting = λ k d h t. elim (cases_eq k i) [
+        | inl q ↦ absurd (false≢true (sym next-gone ∙ ap (contains left) (sym (old-variable d)) ∙ subst (λ j. contains left (get_or old j d).variable ≡ true) q t))
+        | inr ne ↦ get_or-set_other cells i k e d ne ∙ s.waiting k d h (other-left k d h ne ∙ t)
+      ];
+      done = λ k d h f. elim (cases_eq k i) [
+        | inl q ↦
+            subst (λ j. P (get_or old j d) (get_or (set cells i e) j d)) (sym q)
+            (subst (λ (c : CellView). P (get_or old i d) c) (sym (get_or-set_same cells i e d bound))
+            (subst (λ (c : CellView). P c e) (get_or_default cells i r d bound ∙ next-same d) p))
+        | inr ne ↦ subst (λ (c : CellView). P (get_or old k d) c) (sym (get_or-set_other cells i k e d ne)) (s.done k d h (other-left k d h ne ∙ f))
+      ];
+    }
 
 pub Going-end : (P : CellView → CellView → Type 0) (clause : List ℕ) (old cells : List CellView) → Going P clause old cells [] → Each P old cells
 Going-end P clause old cells s = record { len = s.len; at = λ k d h. s.done k d h refl }
@@ -286,10 +317,15 @@ module _ (R : List Named → CellView → CellView → Type 0) where
   Each-all all i old cells h p = subst (λ (cs : List Named). Each (R cs) old cells) (take_all i all h) p
 
 -- the cells stay those of their variables
-pub numbered-kept : (P : CellView → CellView → Type 0) (old new : List CellView) → ((a b : CellView) → P a b → b.variable ≡ a.variable) → AreNumbered old → Each P old new → AreNumbered new
-numbered-kept P old new same n e k d h =
-    let l : length new ≡ length old = e.len in
-    same (get_or old k d) (get_or new k d) (e.at k d (omega arith)) ∙ n k d (omega arith)
+module _ (P : CellView → CellView → Type 0) (old new : List CellView) (same : (a b : CellView) → P a b → b.variable ≡ a.variable) (e : Each P old new) where
+  variables-kept : variables_of new ≡ variables_of old
+  variables-kept = Each-map P (λ x. x.variable) (λ x. x.variable) old new same e
+
+  pub ascending-kept : IsAscending (variables_of old) → IsAscending (variables_of new)
+  ascending-kept a = subst IsAscending (sym variables-kept) a
+
+  pub over-kept : (clauses : List Named) → All (λ (c : Named). AreOver (variables_of old) c.clause) clauses → All (λ (c : Named). AreOver (variables_of new) c.clause) clauses
+  over-kept clauses held = subst (λ vs. All (λ (c : Named). AreOver vs c.clause) clauses) (sym variables-kept) held
 
 -- what held of the clauses of each cell still does where clauses are gone
 pub kept-without : (P : ℕ → Named → Type 0) (gone : List Named) (old new : List CellView) → Each (IsWithout gone) old new → All (λ (x : CellView). All (P x.variable) x.clauses) old
@@ -388,8 +424,10 @@ part-right : (P : Named → Type 0) (xs ys : List Named) → All P (xs ++ ys) �
 part-right P xs ys held k d h = All-contains P (xs ++ ys) (get_or ys k d) held (Contains-append_right xs ys (get_or ys k d) (Contains-get_or ys k d h))
 
 -- where the first part is gone, the second part is as it was
-pub within-second : (first second : List Named) (n m : ℕ) → m ≡ n → All (λ (c : Named). IsWithin n c.clause) (first ++ second) → All (λ (c : Named). IsWithin m c.clause) second
-within-second first second n m e held = subst (λ k. All (λ (c : Named). IsWithin k c.clause) second) (sym e) (part-right (λ (c : Named). IsWithin n c.clause) first second held)
+pub within-second : (first second : List Named) (old mid : List CellView) → Each (IsWithout first) old mid → All (λ (c : Named). AreOver (variables_of old) c.clause) (first ++ second)
+    → All (λ (c : Named). AreOver (variables_of mid) c.clause) second
+within-second first second old mid e held =
+    over-kept (IsWithout first) old mid (λ a b w. w.variable) e second (part-right (λ (c : Named). AreOver (variables_of old) c.clause) first second held)
 
 pub named-second : (first second : List Named) (old mid : List CellView) → Each (IsWithout first) old mid
     → All (λ (x : CellView). All (λ (c : Named). All (λ (g : Named). c.number ≡ g.number → IsTrue (has_variable x.variable g.clause)) (first ++ second)) x.clauses) old

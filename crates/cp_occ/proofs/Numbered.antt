@@ -1,5 +1,5 @@
 -- Numbered clauses by ascending number: what stands under a number, what a search by the number finds, and a removal.
-use Rattle.std.proofs.Common.{◌≡◌, ℕ, zero, suc, ◌<◌, ◌≤◌, cond, not, eqb, List, [], ◌∷◌, ◌++◌, length, get_or, Some, None, Result, Ok, Err, IfSome, IfNone, refl, sym, ◌∙◌, ap, subst, inl, inr, arith}
+use Rattle.std.proofs.Common.{◌≡◌, ℕ, zero, suc, ◌<◌, ◌≤◌, cond, not, eqb, List, [], ◌∷◌, ◌++◌, length, map, get_or, Some, None, Result, Ok, Err, IfSome, IfNone, refl, sym, ◌∙◌, ap, subst, inl, inr, arith}
 use Rattle.std.specs.Prelude.{◌==◌, ◌≢◌, IsTrue}
 use Rattle.std.specs.List.{Contains, All, remove}
 use Rattle.std.specs.List.Sorted.{IsSearchInRange, IsBinarySearchResult, IsNonDecreasingBy}
@@ -24,37 +24,47 @@ use Rattle.cp_occ.specs.Cells.{IsOf, IsListed}
 number-here : (cs : List Named) (i : ℕ) (d : Named) → i < length cs → Contains (numbers_of cs) (get_or cs i d).number
 number-here cs i d h = in_map (λ (c : Named). c.number) cs (get_or cs i d) (Contains-get_or cs i d h)
 
--- clauses before others have lesser numbers
-pub earlier : (cs : List Named) (i j : ℕ) (d : Named) → IsAscending (numbers_of cs) → i < j → j < length cs → (get_or cs i d).number < (get_or cs j d).number
-earlier [] i j d a l h = absurd (omega arith)
-earlier (c ∷ cs) i zero d a l h = absurd (omega arith)
-earlier (c ∷ cs) zero (suc j) d a l h = below_others c.number (numbers_of cs) (get_or cs j d).number a (number-here cs j d (omega arith))
-earlier (c ∷ cs) (suc i) (suc j) d a l h = earlier cs i j d a.1 (omega arith) (omega arith)
+-- of a list whose keys ascend
+module _ {X : Type 0} (key : X → ℕ) where
+  -- those before others have lesser keys
+  pub earlier : (xs : List X) (i j : ℕ) (d : X) → IsAscending (map key xs) → i < j → j < length xs → key (get_or xs i d) < key (get_or xs j d)
+  earlier [] i j d a l h = absurd (omega arith)
+  earlier (x ∷ xs) i zero d a l h = absurd (omega arith)
+  earlier (x ∷ xs) zero (suc j) d a l h = below_others (key x) (map key xs) (key (get_or xs j d)) a (in_map key xs (get_or xs j d) (Contains-get_or xs j d (omega arith)))
+  earlier (x ∷ xs) (suc i) (suc j) d a l h = earlier xs i j d a.1 (omega arith) (omega arith)
 
--- the comparisons with a number rise along the list, as a binary search asks
-comparisons-rise : (cs : List Named) (n : ℕ) → IsAscending (numbers_of cs) → IsNonDecreasingBy (λ (c : Named). ordering_index (nat_cmp c.number n)) cs
-comparisons-rise cs n a i j d le h =
-    elim (cases_eq i j) [
-      | inl e ↦ subst (λ (k : ℕ). ordering_index (nat_cmp (get_or cs i d).number n) ≤ ordering_index (nat_cmp (get_or cs k d).number n)) e (omega arith)
-      | inr ne ↦ let l : (get_or cs i d).number < (get_or cs j d).number = earlier cs i j d a (omega arith) h in grind (arith, nat_tests)
-    ]
+  -- no two have one key
+  pub same_place : (xs : List X) (i j : ℕ) (d : X) → IsAscending (map key xs) → i < length xs → j < length xs → key (get_or xs i d) ≡ key (get_or xs j d) → i ≡ j
+  same_place xs i j d a h l e = elim (cases_order i j) [
+    | inl q ↦ q
+    | inr (inl q) ↦ let less : key (get_or xs i d) < key (get_or xs j d) = earlier xs i j d a q l in absurd (omega arith)
+    | inr (inr q) ↦ let less : key (get_or xs j d) < key (get_or xs i d) = earlier xs j i d a q h in absurd (omega arith)
+  ]
 
--- what a binary search by the number answers
-pub searched-some : (cs : List Named) (n : ℕ) (r : Result ℕ ℕ) → IsSearchInRange r (length cs) → IsBinarySearchResult (λ (c : Named). nat_cmp c.number n) cs r
-    → IfSome (result_ok r) (λ i. (i < length cs) × ((d : Named) → (get_or cs i d).number ≡ n))
-searched-some cs n (Ok at) within found = (within, λ d. ranked _ n _ (sym (found d)))
-searched-some cs n (Err at) within parted = tt
+  -- the comparisons with a number rise along the list, as a binary search asks
+  comparisons-rise : (xs : List X) (n : ℕ) → IsAscending (map key xs) → IsNonDecreasingBy (λ (x : X). ordering_index (nat_cmp (key x) n)) xs
+  comparisons-rise xs n a i j d le h =
+      elim (cases_eq i j) [
+        | inl e ↦ subst (λ (k : ℕ). ordering_index (nat_cmp (key (get_or xs i d)) n) ≤ ordering_index (nat_cmp (key (get_or xs k d)) n)) e (omega arith)
+        | inr ne ↦ let l : key (get_or xs i d) < key (get_or xs j d) = earlier xs i j d a (omega arith) h in grind (arith, nat_tests)
+      ]
 
-pub searched-none : (cs : List Named) (n : ℕ) (r : Result ℕ ℕ) → IsAscending (numbers_of cs) → IsSearchInRange r (length cs) → IsBinarySearchResult (λ (c : Named). nat_cmp c.number n) cs r
-    → IfNone (result_ok r) (All (λ (c : Named). c.number ≢ n) cs)
-searched-none cs n (Ok at) a within found = tt
-searched-none cs n (Err at) a within parted = λ k d h e.
-    let halves = parted (comparisons-rise cs n a) in
-    elim (cases_order k at) [
-      | inl q ↦ let g : n < (get_or cs k d).number = ranked _ n _ (sym (halves.1 k d (omega arith) h)) in omega arith
-      | inr (inl q) ↦ let l : (get_or cs k d).number < n = ranked _ n _ (sym (halves.0 k d (omega arith) q)) in omega arith
-      | inr (inr q) ↦ let g : n < (get_or cs k d).number = ranked _ n _ (sym (halves.1 k d (omega arith) h)) in omega arith
-    ]
+  -- what a binary search by the key answers
+  pub searched-some : (xs : List X) (n : ℕ) (r : Result ℕ ℕ) → IsSearchInRange r (length xs) → IsBinarySearchResult (λ (x : X). nat_cmp (key x) n) xs r
+      → IfSome (result_ok r) (λ i. (i < length xs) × ((d : X) → key (get_or xs i d) ≡ n))
+  searched-some xs n (Ok at) within found = (within, λ d. ranked _ n _ (sym (found d)))
+  searched-some xs n (Err at) within parted = tt
+
+  pub searched-none : (xs : List X) (n : ℕ) (r : Result ℕ ℕ) → IsAscending (map key xs) → IsSearchInRange r (length xs) → IsBinarySearchResult (λ (x : X). nat_cmp (key x) n) xs r
+      → IfNone (result_ok r) (All (λ (x : X). key x ≢ n) xs)
+  searched-none xs n (Ok at) a within found = tt
+  searched-none xs n (Err at) a within parted = λ k d h e.
+      let halves = parted (comparisons-rise xs n a) in
+      elim (cases_order k at) [
+        | inl q ↦ let g : n < key (get_or xs k d) = ranked _ n _ (sym (halves.1 k d (omega arith) h)) in omega arith
+        | inr (inl q) ↦ let l : key (get_or xs k d) < n = ranked _ n _ (sym (halves.0 k d (omega arith) q)) in omega arith
+        | inr (inr q) ↦ let g : n < key (get_or xs k d) = ranked _ n _ (sym (halves.1 k d (omega arith) h)) in omega arith
+      ]
 
 -- ---- a look-up and a removal
 

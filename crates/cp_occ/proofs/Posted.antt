@@ -6,7 +6,7 @@ use Rattle.std.proofs.lemmas.List.Elements.{Contains-get_or, All-append, All-pus
 use Rattle.std.proofs.lemmas.List.FromFn.{get_or-map-range_with_len, length-range_with_len}
 use Rattle.cp_logic.specs.declared.named.Named.{Named}
 use Rattle.cp_logic.specs.declared.settings.Rules.{Rules}
-use Rattle.cp_logic.specs.Literals.{negated, positive}
+use Rattle.cp_logic.specs.Literals.{variable_of, negated, positive}
 use Rattle.cp_logic.specs.Clauses.{has_variable, without, resolvent, IsAscending}
 use Rattle.cp_logic.specs.Formulas.{Formula, IsFormula, IsWithin, numbers_of, occurrences}
 use Rattle.cp_logic.specs.Rules.{state_after}
@@ -14,7 +14,7 @@ use Rattle.cp_logic.specs.Entries.{Entry, Taut, Subsume, Strengthen, Block, Elim
 use Rattle.cp_logic.specs.Legality.{is_legal_in, is_legal}
 use Rattle.cp_logic.specs.Journals.{start_of}
 use Rattle.cp_logic.specs.Locality.{after}
-use Rattle.cp_logic.proofs.Members.{none_in, in_cases, of_filter, of_map}
+use Rattle.cp_logic.proofs.Members.{none_in, in_cases, of_filter, of_map, in_contains}
 use Rattle.cp_logic.proofs.Ascending.{same_number, IsAscending-cons}
 use Rattle.cp_logic.proofs.SetFacts.{of_without, of_resolvent}
 use Rattle.cp_logic.proofs.Parts.{strengthen-parts, eliminate-parts}
@@ -22,11 +22,31 @@ use Rattle.cp_logic.proofs.Eliminations.{eliminate-numbered, of_pos, of_neg, of_
 use Rattle.cp_logic.proofs.Expansions.{within_at, below_at, within_smaller, variable_within, strengthen-number}
 use Rattle.cp_logic.proofs.EntryRuns.{legal-in}
 use Rattle.cp_logic.proofs.Others.{gone-stands}
+use Rattle.cp_logic.proofs.Totals.{in_range}
 use Rattle.cp_logic.proofs.Runs.{variables-state_after}
 use Rattle.cp_logic.proofs.Changes.{change-local, renumbered-from}
 use Rattle.cp_occ.specs.Cells.{CellView, variables_after, AreNumbered, variables_of, lists_of}
-use Rattle.cp_occ.specs.Changes.{places_of, HasRoom, IsChange, lists_after, AreCellsOf}
+use Rattle.cp_occ.specs.Changes.{AreOver, places_of, HasRoom, IsChange, lists_after, AreCellsOf}
 use Rattle.cp_occ.proofs.Entered.{map-by_position}
+
+-- ---- the variables from 1 on
+
+pub of_range : (n a y : ℕ) → Contains (range_with_len a n) y → (a ≤ y) × (y < a + n)
+of_range zero a y i = absurd (none_in y i)
+of_range (suc n) a y i = elim (in_cases y a (range_with_len (a + 1) n) i) [
+  | inl e ↦ (omega arith, omega arith)
+  | inr j ↦ let r = of_range n (a + 1) y j in (omega arith, omega arith)
+]
+
+range-ascends : (n a : ℕ) → IsAscending (range_with_len a n)
+range-ascends zero a = tt
+range-ascends (suc n) a = IsAscending-cons a (range_with_len (a + 1) n) (λ y i. let r = of_range n (a + 1) y i in omega (arith, r.0)) (range-ascends n (a + 1))
+
+-- a clause within them is over them
+pub over-range : (n : ℕ) (clause : List ℕ) → IsWithin n clause → AreOver (range_with_len 1 n) clause
+over-range n clause w k d h =
+    let v = variable_within n clause (get_or clause k d) w (Contains-get_or clause k d h) in
+    in_contains (range_with_len 1 n) (variable_of (get_or clause k d)) (in_range n 1 (variable_of (get_or clause k d)) v.0 (omega (arith, v.1)))
 
 -- ---- the cells of a formula, by position
 
@@ -41,6 +61,14 @@ module _ (f : Formula) (cells : List CellView) (a : AreCellsOf f cells) where
       let n = cells-length in
       sym (get_or-map (λ (c : CellView). c.variable) cells k d 0 h) ∙ ap (λ xs. get_or xs k 0) (a.variables ∙ sym (map-id (range_with_len 1 f.variables)))
       ∙ get_or-map-range_with_len (λ x. x) 1 f.variables k (k + 1) 0 (omega arith) (omega arith)
+
+  -- their variables ascend
+  pub cells-ascending : IsAscending (variables_of cells)
+  cells-ascending = rw a.variables (range-ascends f.variables 1)
+
+  -- a clause of the formula's variables is over theirs
+  pub cells-over : (clause : List ℕ) → IsWithin f.variables clause → AreOver (variables_of cells) clause
+  cells-over clause w = rw a.variables (over-range f.variables clause w)
 
   -- each lists the clauses of its variable
   pub cells-list : (k : ℕ) (d : CellView) → k < length cells → (get_or cells k d).clauses ≡ occurrences f.clauses (k + 1)
@@ -104,7 +132,7 @@ legal-replaces f rules e v h = record {
 }
 
 -- the new clauses have the next numbers
-new-numbers : (next : ℕ) (e : Entry) → e ≡ numbered next e → (n : Named) → Contains (new_clauses e) n → next ≤ n.number
+pub new-numbers : (next : ℕ) (e : Entry) → e ≡ numbered next e → (n : Named) → Contains (new_clauses e) n → next ≤ n.number
 new-numbers next (Taut gone) e n i = absurd (none_in n i)
 new-numbers next (Subsume by gone) e n i = absurd (none_in n i)
 new-numbers next (Strengthen by on l new) e n i =
@@ -123,7 +151,7 @@ renumbered-rise n (c ∷ cs) =
     subst (λ m. n < m) d.2 (omega arith))
     (renumbered-rise (n + 1) cs)
 
-new-rise : (next : ℕ) (e : Entry) → e ≡ numbered next e → IsAscending (numbers_of (new_clauses e))
+pub new-rise : (next : ℕ) (e : Entry) → e ≡ numbered next e → IsAscending (numbers_of (new_clauses e))
 new-rise next (Taut gone) e = tt
 new-rise next (Subsume by gone) e = tt
 new-rise next (Strengthen by on l new) e = (refl, tt)
@@ -133,17 +161,19 @@ new-rise next (Look x) e = tt
 
 -- what `prepare` requires of the new clauses
 pub new-within : (f : Formula) (rules : Rules) (e : Entry) (cells : List CellView) → IsFormula f → is_legal f rules e ≡ true → AreCellsOf f cells
-    → All (λ (c : Named). IsWithin (length cells) c.clause) (new_clauses e)
-new-within f rules e cells v h a =
-    rw (cells-length f cells a) (λ j d l. (legal-replaces f rules e v h).new_within (get_or (new_clauses e) j d) (Contains-get_or (new_clauses e) j d l))
+    → All (λ (c : Named). AreOver (variables_of cells) c.clause) (new_clauses e)
+new-within f rules e cells v h a = λ j d l.
+    let n = get_or (new_clauses e) j d in
+    cells-over f cells a n.clause ((legal-replaces f rules e v h).new_within n (Contains-get_or (new_clauses e) j d l))
 
 -- what `apply` requires: the legal entry, as it is posted, is a change of the formula's cells
 pub legal-change : (f : Formula) (rules : Rules) (e : Entry) (cells : List CellView) → IsFormula f → is_legal f rules e ≡ true → e ≡ numbered f.next e → AreCellsOf f cells → IsChange cells e
 legal-change f rules e cells v h n a =
     let r = legal-replaces f rules e v h in
-    let same = cells-length f cells a in
     record {
-      gone_within = rw same (λ j d l. within_at f (get_or (gone_clauses e) j d) v (r.gone_in (get_or (gone_clauses e) j d) (Contains-get_or (gone_clauses e) j d l)));
+      gone_within = λ j d l.
+          let g = get_or (gone_clauses e) j d in
+          cells-over f cells a g.clause (within_at f g v (r.gone_in g (Contains-get_or (gone_clauses e) j d l)));
       new_within = new-within f rules e cells v h a;
       named = λ j d l i c m q g o s.
           let here = cells-clause f cells a j d l i c m in
@@ -208,18 +238,19 @@ many-numbered n (Look y) x = refl
 pub HasRoom-numbered : (n : ℕ) (e : Entry) (cells : List CellView) → HasRoom cells e → HasRoom cells (numbered n e)
 HasRoom-numbered n e cells h = λ j d m. subst (λ q. q ≤ (get_or cells j d).spare) (sym (many-numbered n e (get_or cells j d).variable)) (h j d m)
 
--- the entry's clauses are within where the numbered ones are
-within-renumbered : (n v : ℕ) (cs : List Named) → All (λ (c : Named). IsWithin v c.clause) (renumbered n cs) → All (λ (c : Named). IsWithin v c.clause) cs
-within-renumbered n v [] h = λ j d m. absurd (omega arith)
-within-renumbered n v (c ∷ cs) h =
-    let first = h zero c (omega arith) in
-    let rest = within-renumbered (n + 1) v cs (λ j d m. h (suc j) d (omega arith)) in
-    All-append (λ (z : Named). IsWithin v z.clause) (c ∷ []) cs (All-push (λ (z : Named). IsWithin v z.clause) [] c (λ j d m. absurd (omega arith)) first) rest
+-- what is so of each numbered new clause is so of the entry's own
+module _ (P : List ℕ → Type 0) where
+  each-renumbered : (n : ℕ) (cs : List Named) → All (λ (c : Named). P c.clause) (renumbered n cs) → All (λ (c : Named). P c.clause) cs
+  each-renumbered n [] h = λ j d m. absurd (omega arith)
+  each-renumbered n (c ∷ cs) h =
+      let first = h zero c (omega arith) in
+      let rest = each-renumbered (n + 1) cs (λ j d m. h (suc j) d (omega arith)) in
+      All-append (λ (z : Named). P z.clause) (c ∷ []) cs (All-push (λ (z : Named). P z.clause) [] c (λ j d m. absurd (omega arith)) first) rest
 
-pub within-numbered : (n v : ℕ) (e : Entry) → All (λ (c : Named). IsWithin v c.clause) (new_clauses (numbered n e)) → All (λ (c : Named). IsWithin v c.clause) (new_clauses e)
-within-numbered n v (Taut gone) h = h
-within-numbered n v (Subsume by gone) h = h
-within-numbered n v (Strengthen by on l new) h = within-renumbered n v (new ∷ []) h
-within-numbered n v (Block gone l) h = h
-within-numbered n v (Eliminate x pos neg new) h = within-renumbered n v new h
-within-numbered n v (Look x) h = h
+  pub each-numbered : (n : ℕ) (e : Entry) → All (λ (c : Named). P c.clause) (new_clauses (numbered n e)) → All (λ (c : Named). P c.clause) (new_clauses e)
+  each-numbered n (Taut gone) h = h
+  each-numbered n (Subsume by gone) h = h
+  each-numbered n (Strengthen by on l new) h = each-renumbered n (new ∷ []) h
+  each-numbered n (Block gone l) h = h
+  each-numbered n (Eliminate x pos neg new) h = each-renumbered n new h
+  each-numbered n (Look x) h = h

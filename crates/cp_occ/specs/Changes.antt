@@ -2,11 +2,16 @@
 use Rattle.std.specs.Prelude.{◌≡◌, ℕ, ◌+◌, ◌<◌, ◌≤◌, List, ◌++◌, map, length, slice_index_or, IsTrue}
 use Rattle.std.specs.List.{All, Contains, range_with_len}
 use Rattle.cp_logic.specs.declared.named.Named.{Named}
-use Rattle.cp_logic.specs.Clauses.{has_variable, IsAscending}
-use Rattle.cp_logic.specs.Formulas.{Formula, IsWithin, numbers_of, occurrences, without_numbers}
+use Rattle.cp_logic.specs.Literals.{variable_of}
+use Rattle.cp_logic.specs.Clauses.{contains, has_variable, IsAscending}
+use Rattle.cp_logic.specs.Formulas.{Formula, numbers_of, occurrences, without_numbers}
 use Rattle.cp_logic.specs.Entries.{Entry, gone_clauses, new_clauses}
 use Rattle.cp_logic.specs.Locality.{after}
 use Rattle.cp_occ.specs.Cells.{CellView, variables_after, variables_of, lists_of}
+
+-- the variable of each literal is among these variables
+abbrev pub AreOver : List ℕ → List ℕ → Type 0
+AreOver variables clause = All (λ l. IsTrue (contains variables (variable_of l))) clause
 
 -- for each new clause of the entry a list that has it once for each of its variables
 abbrev pub places_of : Entry → List (List (List ℕ))
@@ -19,8 +24,8 @@ HasRoom cells e = All (λ cell. length (occurrences (new_clauses e) cell.variabl
 -- the entry's clauses are of the variables of the cells; what stands in a cell under the number of a clause that goes is of that clause's
 -- variables; and the new numbers rise, and are above those of the cells
 pub record IsChange (cells : List CellView) (e : Entry) : Type 0 where
-  pub gone_within : All (λ c. IsWithin (length cells) c.clause) (gone_clauses e)
-  pub new_within : All (λ c. IsWithin (length cells) c.clause) (new_clauses e)
+  pub gone_within : All (λ c. AreOver (variables_of cells) c.clause) (gone_clauses e)
+  pub new_within : All (λ c. AreOver (variables_of cells) c.clause) (new_clauses e)
   pub named : All (λ cell. All (λ c. All (λ g. c.number ≡ g.number → IsTrue (has_variable cell.variable g.clause)) (gone_clauses e)) cell.clauses) cells
   pub above : All (λ cell. All (λ c. All (λ n. c.number < n.number) (new_clauses e)) cell.clauses) cells
   pub rising : IsAscending (numbers_of (new_clauses e))

@@ -1,12 +1,12 @@
 //! What an entry that is posted does to the cells: all memory is taken first, and then its clauses go and come.
-ghost use Rattle.std.specs.Prelude.{◌≡◌, ◌<◌, ◌≤◌, ◌++◌, [], ◌∷◌, length, map, IsTrue, OnOk, IfOk};
+ghost use Rattle.std.specs.Prelude.{◌≡◌, ◌<◌, ◌≤◌, ◌++◌, [], ◌∷◌, length, map, slice_index_or, IsTrue, OnOk, IfOk};
 ghost use Rattle.std.specs.List.{All};
-ghost use Rattle.cp_logic.specs.Clauses.{has_variable, IsAscending};
-ghost use Rattle.cp_logic.specs.Formulas.{IsWithin, numbers_of, occurrences};
+ghost use Rattle.cp_logic.specs.Clauses.{contains, has_variable, IsAscending};
+ghost use Rattle.cp_logic.specs.Formulas.{numbers_of, occurrences};
 ghost use Rattle.cp_logic.specs.Entries.{gone_clauses, new_clauses};
 ghost use Rattle.cp_logic.specs.Views.{entry_of};
-ghost use Rattle.cp_occ.specs.Cells.{AreNumbered, variables_after, variables_of, lists_of};
-ghost use Rattle.cp_occ.specs.Changes.{places_of, HasRoom, IsChange, lists_after, IsRoomier, IsWithout, IsWith, IsChanged, Each};
+ghost use Rattle.cp_occ.specs.Cells.{variables_after, variables_of, lists_of};
+ghost use Rattle.cp_occ.specs.Changes.{AreOver, places_of, HasRoom, IsChange, lists_after, IsRoomier, IsWithout, IsWith, IsChanged, Each};
 
 use crate::cell::Cell;
 use crate::cells::Cells;
@@ -49,8 +49,8 @@ impl Cells {
     /// Takes all memory that the entry needs: places of its new clauses, and room in the cells of their variables. The error
     /// comes only for want of memory. The cells list what they listed, also after an error.
     pub fn prepare(&mut self, alloc: Global, entry: &Entry) -> Result<Prepared, AllocError>
-        requires numbered { AreNumbered self.old.items }
-        requires within { All (λ c. IsWithin (length self.old.items) c.clause) (new_clauses (entry_of entry.now)) }
+        requires ascending { IsAscending (variables_of self.old.items) }
+        requires within { All (λ c. AreOver (variables_of self.old.items) c.clause) (new_clauses (entry_of entry.now)) }
         ensures variables { variables_of self.new.items ≡ variables_of self.old.items }
         ensures lists { lists_of self.new.items ≡ lists_of self.old.items }
         ensures spare { self.new.spare ≡ self.old.spare }
@@ -67,7 +67,7 @@ impl Cells {
     /// Takes each clause that the entry removes out of the cells of its variables, and puts each new clause of the entry into
     /// the cells of its own, under its number. It takes no memory.
     pub fn apply(&mut self, entry: &Entry, prepared: Prepared)
-        requires numbered { AreNumbered self.old.items }
+        requires ascending { IsAscending (variables_of self.old.items) }
         requires change { IsChange self.old.items (entry_of entry.now) }
         requires places { prepared ≡ places_of (entry_of entry.now) }
         requires room { HasRoom self.old.items (entry_of entry.now) }
@@ -114,8 +114,8 @@ fn gone_by(entry: &Entry) -> (&[Named], &[Named])
 
 // Makes room in the cells of the variables of the clauses. As many as all may come into one cell.
 fn make_room_for_all(cells: &mut [Cell], added: &[Named]) -> Result<(), AllocError>
-    requires numbered { AreNumbered cells.old }
-    requires within { All (λ c. IsWithin (length cells.old) c.clause) added.now }
+    requires ascending { IsAscending (variables_of cells.old) }
+    requires within { All (λ c. AreOver (variables_of cells.old) c.clause) added.now }
     ensures len { length cells.new ≡ length cells.old }
     ensures variables { variables_of cells.new ≡ variables_of cells.old }
     ensures lists { lists_of cells.new ≡ lists_of cells.old }
@@ -130,15 +130,16 @@ fn make_room_for_all(cells: &mut [Cell], added: &[Named]) -> Result<(), AllocErr
 
 // Makes room for `n` clauses in the cells of the clause's variables.
 fn make_room(cells: &mut [Cell], added: &Named, n: usize) -> Result<(), AllocError>
-    requires numbered { AreNumbered cells.old }
-    requires within { IsWithin (length cells.old) added.now.clause }
+    requires ascending { IsAscending (variables_of cells.old) }
+    requires within { AreOver (variables_of cells.old) added.now.clause }
     ensures len { length cells.new ≡ length cells.old }
     ensures variables { variables_of cells.new ≡ variables_of cells.old }
     ensures lists { lists_of cells.new ≡ lists_of cells.old }
     ensures room { OnOk result (Each (IsRoomier n (added.now ∷ [])) cells.old cells.new) }
 {
     for var in Variables::of(&added.clause) {
-        cells[var as usize - 1].reserve(n)?;
+        let index = index_of(cells, var);
+        cells[index].reserve(n)?;
     }
     Ok(())
 }
@@ -174,9 +175,9 @@ fn change(
     added: &[Named],
     copies: Vec<Copies>,
 )
-    requires numbered { AreNumbered cells.old }
-    requires gone_within { All (λ c. IsWithin (length cells.old) c.clause) (first.now ++ second.now) }
-    requires within { All (λ c. IsWithin (length cells.old) c.clause) added.now }
+    requires ascending { IsAscending (variables_of cells.old) }
+    requires gone_within { All (λ c. AreOver (variables_of cells.old) c.clause) (first.now ++ second.now) }
+    requires within { All (λ c. AreOver (variables_of cells.old) c.clause) added.now }
     requires named { All (λ cell. All (λ c. All (λ g. c.number ≡ g.number → IsTrue (has_variable cell.variable g.clause)) (first.now ++ second.now)) cell.clauses) cells.old }
     requires above { All (λ cell. All (λ c. All (λ n. c.number < n.number) added.now) cell.clauses) cells.old }
     requires rising { IsAscending (numbers_of added.now) }
@@ -191,8 +192,8 @@ fn change(
 
 // Takes the clauses out of the cells of their variables.
 fn remove_all(cells: &mut [Cell], gone: &[Named])
-    requires numbered { AreNumbered cells.old }
-    requires within { All (λ c. IsWithin (length cells.old) c.clause) gone.now }
+    requires ascending { IsAscending (variables_of cells.old) }
+    requires within { All (λ c. AreOver (variables_of cells.old) c.clause) gone.now }
     requires named { All (λ cell. All (λ c. All (λ g. c.number ≡ g.number → IsTrue (has_variable cell.variable g.clause)) gone.now) cell.clauses) cells.old }
     ensures { Each (IsWithout gone.now) cells.old cells.new }
 {
@@ -203,20 +204,21 @@ fn remove_all(cells: &mut [Cell], gone: &[Named])
 
 // Takes the clause out of the cells of its variables.
 fn remove_everywhere(cells: &mut [Cell], gone: &Named)
-    requires numbered { AreNumbered cells.old }
-    requires within { IsWithin (length cells.old) gone.now.clause }
+    requires ascending { IsAscending (variables_of cells.old) }
+    requires within { AreOver (variables_of cells.old) gone.now.clause }
     requires named { All (λ cell. All (λ c. c.number ≡ gone.now.number → IsTrue (has_variable cell.variable gone.now.clause)) cell.clauses) cells.old }
     ensures { Each (IsWithout (gone.now ∷ [])) cells.old cells.new }
 {
     for var in Variables::of(&gone.clause) {
-        let _ = cells[var as usize - 1].remove(gone.number);
+        let index = index_of(cells, var);
+        let _ = cells[index].remove(gone.number);
     }
 }
 
 // Puts the clauses into the cells of their variables, each by its places.
 fn insert_all(cells: &mut [Cell], added: &[Named], copies: Vec<Copies>)
-    requires numbered { AreNumbered cells.old }
-    requires within { All (λ c. IsWithin (length cells.old) c.clause) added.now }
+    requires ascending { IsAscending (variables_of cells.old) }
+    requires within { All (λ c. AreOver (variables_of cells.old) c.clause) added.now }
     requires above { All (λ cell. All (λ c. All (λ n. c.number < n.number) added.now) cell.clauses) cells.old }
     requires rising { IsAscending (numbers_of added.now) }
     requires room { All (λ cell. length (occurrences added.now cell.variable) ≤ cell.spare) cells.old }
@@ -234,8 +236,8 @@ fn insert_all(cells: &mut [Cell], added: &[Named], copies: Vec<Copies>)
 
 // Puts the clause into the cells of its variables, by one of its places for each.
 fn insert_everywhere(cells: &mut [Cell], added: &Named, copies: Copies)
-    requires numbered { AreNumbered cells.old }
-    requires within { IsWithin (length cells.old) added.now.clause }
+    requires ascending { IsAscending (variables_of cells.old) }
+    requires within { AreOver (variables_of cells.old) added.now.clause }
     requires above { All (λ cell. All (λ c. c.number < added.now.number) cell.clauses) cells.old }
     requires room { All (λ cell. IsTrue (has_variable cell.variable added.now.clause) → 0 < cell.spare) cells.old }
     requires places { copies ≡ map (λ v. added.now.clause) (variables_after 0 added.now.clause) }
@@ -246,6 +248,35 @@ fn insert_everywhere(cells: &mut [Cell], added: &Named, copies: Copies)
         let Some(place) = left.pop() else {
             unreachable!()
         };
-        cells[var as usize - 1].insert(added.number, place);
+        let index = index_of(cells, var);
+        cells[index].insert(added.number, place);
+    }
+}
+
+// The index of the variable's cell. In the list of the cells of all variables it is one less than the variable, so that is
+// looked at before the list is searched.
+fn index_of(cells: &[Cell], var: u32) -> usize
+    requires ascending { IsAscending (variables_of cells.now) }
+    requires has { IsTrue (contains (variables_of cells.now) var) }
+    ensures bound { result < length cells.now }
+    ensures variable { (d : _) → (slice_index_or cells.now result d).variable ≡ var }
+{
+    let likely = (var as usize).wrapping_sub(1);
+    match cells.get(likely) {
+        Some(cell) if cell.var() == var => likely,
+        _ => searched_index(cells, var),
+    }
+}
+
+// The index of the variable's cell, by binary search.
+fn searched_index(cells: &[Cell], var: u32) -> usize
+    requires ascending { IsAscending (variables_of cells.now) }
+    requires has { IsTrue (contains (variables_of cells.now) var) }
+    ensures bound { result < length cells.now }
+    ensures variable { (d : _) → (slice_index_or cells.now result d).variable ≡ var }
+{
+    match cells.binary_search_by_key(&var, |cell| cell.var()) {
+        Ok(index) => index,
+        Err(_) => unreachable!(),
     }
 }

@@ -1,6 +1,8 @@
 //! The variables of a clause, each once.
 ghost use Rattle.std.specs.Prelude.{◌≡◌};
 ghost use Rattle.std.specs.Iterator.{YieldsFirst, item_count};
+ghost use Rattle.std.specs.List.{All};
+ghost use Rattle.cp_logic.specs.Literals.{IsLiteral};
 ghost use Rattle.cp_logic.specs.Clauses.{IsAscending};
 ghost use Rattle.cp_occ.specs.Cells.{variables_after};
 
@@ -48,6 +50,7 @@ impl<'a> Variables<'a> {
     pub(crate) fn of(clause: &'a Clause) -> Variables<'a>
         ensures value { result ≡ variables_after 0 clause.now }
         ensures ascending { IsAscending clause.now }
+        ensures literals { All IsLiteral clause.now }
     {
         Variables {
             left: clause.lits(),

@@ -7,15 +7,9 @@ use Rattle.std.proofs.lemmas.List.Elements.{Contains-append_cases}
 use Rattle.cp_logic.specs.Sweeps.{variables_from}
 use Rattle.cp_logic.proofs.Members.{in_cases, none_in}
 use Rattle.cp_logic.proofs.Locals.{find_none}
+use Rattle.cp_occ.proofs.Posted.{of_range}
 
 -- ---- ranges
-
-pub of_range : (n a y : ℕ) → Contains (range_with_len a n) y → (a ≤ y) × (y < a + n)
-of_range zero a y i = absurd (none_in y i)
-of_range (suc n) a y i = elim (in_cases y a (range_with_len (a + 1) n) i) [
-  | inl e ↦ (omega arith, omega arith)
-  | inr j ↦ let r = of_range n (a + 1) y j in (omega arith, omega arith)
-]
 
 -- each item of a round is a variable
 pub of_round : (variables mark y : ℕ) → 1 ≤ mark → mark ≤ variables + 1 → Contains (variables_from variables mark) y → (1 ≤ y) × (y ≤ variables)

@@ -24,7 +24,8 @@ use Rattle.cp_sweep.specs.Marks.{is_marked, marked, with_marks, IsFirstAround}
 use Rattle.cp_sweep.specs.Cursor.{Cursor, Turn, left_at, touched_by, sweep_post, moved, after_post, after_nothing, turn_for, next_turn}
 use Rattle.cp_sweep.specs.Swept.{IsSweptAfter}
 use Rattle.cp_sweep.proofs.MarkFacts.{length-with_marks, marks-kept, marks-put, marks-of, taken-other, taken-same, marked-taken, marked-most}
-use Rattle.cp_sweep.proofs.Rounds.{of_range, of_round, round-head, round-up, round-over}
+use Rattle.cp_occ.proofs.Posted.{of_range}
+use Rattle.cp_sweep.proofs.Rounds.{of_round, round-head, round-up, round-over}
 use Rattle.cp_sweep.proofs.Touching.{touched-within, untouched-silent}
 use Rattle.cp_sweep.proofs.Entries.{first-no_look, first-legal, first-numbered}
 

@@ -12,7 +12,7 @@ module _ (c : goal.After-ok) where
   by_number = c.binary_search_by_key.ensures.position (λ (n : Named). n.number) (answers_always _ _ _ (λ f a r g called. search rules))
 
 pub returns-clause-some : goal.returns-clause-some
-returns-clause-some c = rw c.ok.ensures.value (searched-some c.args.occurrences.now c.args.number c.binary_search_by_key.result c.binary_search_by_key.ensures.bound (by_number c))
+returns-clause-some c = rw c.ok.ensures.value (searched-some (λ (n : Named). n.number) c.args.occurrences.now c.args.number c.binary_search_by_key.result c.binary_search_by_key.ensures.bound (by_number c))
 
 pub returns-clause-none : goal.returns-clause-none
-returns-clause-none c = rw c.ok.ensures.value (searched-none c.args.occurrences.now c.args.number c.binary_search_by_key.result c.requires c.binary_search_by_key.ensures.bound (by_number c))
+returns-clause-none c = rw c.ok.ensures.value (searched-none (λ (n : Named). n.number) c.args.occurrences.now c.args.number c.binary_search_by_key.result c.requires c.binary_search_by_key.ensures.bound (by_number c))

@@ -1,5 +1,5 @@
 use Rattle.std.proofs.Common.{◌≡◌, [], ◌∷◌}
-use Rattle.cp_occ.specs.Cells.{variables_of, lists_of}
+use Rattle.cp_occ.specs.Cells.{lists_of}
 use Rattle.cp_occ.specs.Changes.{IsRoomier}
 use Rattle.cp_occ.proofs.Changed.{Going}
 use Rattle.cp_occ.proofs.changes.make_room.Given as goal
@@ -8,6 +8,5 @@ use Rattle.cp_occ.proofs.changes.make_room.Given as goal
 abbrev pub invariant-loop-var : goal.invariant-loop-var
 invariant-loop-var l = record {
   going : Going (IsRoomier l.fn.n (l.fn.added ∷ [])) l.fn.added.clause l.fn.cells l.cells l.var-iterator;
-  variables : variables_of l.cells ≡ variables_of l.fn.cells;
   lists : lists_of l.cells ≡ lists_of l.fn.cells;
 }

@@ -6,7 +6,7 @@ use Rattle.cp_logic.specs.Views.{entry_of}
 use Rattle.cp_book.specs.Answers.{answer_to, Posted}
 use Rattle.cp_book.specs.Views.{BookView, current, with_post}
 use Rattle.cp_occ.specs.Changes.{AreCellsOf}
-use Rattle.cp_occ.proofs.Posted.{AreCellsOf-same, cells-numbered, new-within, legal-change}
+use Rattle.cp_occ.proofs.Posted.{AreCellsOf-same, cells-ascending, new-within, legal-change}
 use Rattle.cp_sweep.proofs.Entries.{first-legal, first-legal_in, first-no_look, first-numbered}
 use Rattle.cp_sweep.specs.Marks.{with_marks}
 use Rattle.cp_sweep.specs.Cursor.{touched_by}
@@ -17,18 +17,18 @@ use Rattle.cp_sweep.proofs.turns.post.Goals as goal
 pub prepare-requires : goal.prepare-requires
 prepare-requires c = first-no_look (current c.args.state.now.book) c.args.state.now.book.rules c.args.state.now.mark (entry_of c.args.entry) c.requires.found
 
-pub prepare-requires-2-clause-numbered : goal.prepare-requires-2-clause-numbered
-prepare-requires-2-clause-numbered c = cells-numbered (current c.args.state.now.book) c.args.state.now.cells.items c.requires.cells
+pub prepare-requires-2-clause-ascending : goal.prepare-requires-2-clause-ascending
+prepare-requires-2-clause-ascending c = cells-ascending (current c.args.state.now.book) c.args.state.now.cells.items c.requires.cells
 
 pub prepare-requires-2-clause-within : goal.prepare-requires-2-clause-within
 prepare-requires-2-clause-within c =
     let f = current c.args.state.now.book in let rules = c.args.state.now.book.rules in let e = entry_of c.args.entry in
     new-within f rules e c.args.state.now.cells.items c.requires.valid (first-legal f rules c.args.state.now.mark e c.requires.found) c.requires.cells
 
-pub apply-requires-clause-numbered : goal.apply-requires-clause-numbered
-apply-requires-clause-numbered c =
+pub apply-requires-clause-ascending : goal.apply-requires-clause-ascending
+apply-requires-clause-ascending c =
     let f = current c.args.state.now.book in
-    cells-numbered f c.prepare-2.new.self.items (AreCellsOf-same f c.args.state.now.cells.items c.prepare-2.new.self.items c.prepare-2.ensures.variables c.prepare-2.ensures.lists c.requires.cells)
+    cells-ascending f c.prepare-2.new.self.items (AreCellsOf-same f c.args.state.now.cells.items c.prepare-2.new.self.items c.prepare-2.ensures.variables c.prepare-2.ensures.lists c.requires.cells)
 
 pub apply-requires-clause-change : goal.apply-requires-clause-change
 apply-requires-clause-change c =

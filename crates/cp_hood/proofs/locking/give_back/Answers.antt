@@ -1,13 +1,13 @@
-use Rattle.std.proofs.Common.{◌≡◌, ◌<◌, rules, [], List, ◌∷◌, ◌++◌, length, Some, sym, ap, ◌∙◌, subst, arith}
+use Rattle.std.proofs.Common.{◌≡◌, rules, [], List, ◌∷◌, ◌++◌, sym, ap, ◌∙◌, subst}
 use Rattle.std.proofs.lemmas.Bool.{false≢true}
 use Rattle.cp_logic.specs.Clauses.{IsAscending}
 use Rattle.cp_occ.specs.Cells.{CellView, variables_of}
 use Rattle.cp_yard.specs.Views.{SeatView, held_of, unlocked}
-use Rattle.cp_hood.specs.Hoods.{HoldsJust, IsIdle}
+use Rattle.cp_hood.specs.Hoods.{HoldsJust}
 use Rattle.cp_hood.specs.Seats.{GoesOn}
 use Rattle.cp_hood.proofs.Holding.{listed-last, front-ascends, HoldsJust-unlocked, IsIdle-none, none-left}
 use Rattle.cp_hood.proofs.Going.{GoesOn-then, GoesOn-unlocked}
-use Rattle.cp_hood.proofs.locking.release.Goals as goal
+use Rattle.cp_hood.proofs.locking.give_back.Goals as goal
 
 pub unlock-requires-clause-held : goal.unlock-requires-clause-held
 unlock-requires-clause-held c = let i = c.loop-cell.invariant in let rest : List CellView = c.pop.new.self.items in let cell : CellView = c.in-Some.cell in

@@ -3,7 +3,7 @@ use Rattle.cp_logic.specs.Clauses.{IsAscending}
 use Rattle.cp_occ.specs.Cells.{variables_of}
 use Rattle.cp_hood.specs.Hoods.{HoldsJust}
 use Rattle.cp_hood.specs.Seats.{GoesOn}
-use Rattle.cp_hood.proofs.locking.release.Given as goal
+use Rattle.cp_hood.proofs.locking.give_back.Given as goal
 
 abbrev pub invariant-loop-cell : goal.invariant-loop-cell
 invariant-loop-cell l = record {

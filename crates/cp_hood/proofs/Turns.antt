@@ -1,0 +1,92 @@
+-- A seat that tries the turn, has it and ends it; and when a book posts an entry.
+use Rattle.std.proofs.Common.{◌≡◌, ℕ, ◌+◌, ◌<◌, ◌≤◌, Bool, true, false, List, [], ◌∷◌, ◌++◌, map, length, get_or, Some, None, Result, Ok, Err, is_err, append_assoc, append-nil, refl, sym, ◌∙◌, ap, subst, arith}
+use Rattle.std.specs.Prelude.{IsTrue, is_some}
+use Rattle.std.specs.List.{All}
+use Rattle.std.proofs.lemmas.Bool.{false≢true}
+use Rattle.std.proofs.lemmas.List.{map-append, get_or-map, length-map}
+use Rattle.cp_logic.specs.Formulas.{Formula, has_empty}
+use Rattle.cp_logic.specs.Entries.{Entry, numbered}
+use Rattle.cp_logic.specs.Journals.{Post, commits}
+use Rattle.cp_logic.specs.Legality.{is_legal_in}
+use Rattle.cp_logic.specs.Sweeps.{is_spent}
+use Rattle.cp_book.specs.declared.answers.PostAnswer.{PostAnswer}
+use Rattle.cp_book.specs.declared.answers.PostAnswer.TheVariants.{Refuted as HeldRefuted, Spent as HeldSpent, Numbers as HeldNumbers, Stale as HeldStale}
+use Rattle.cp_book.specs.Answers.{Answer, Posted, given_answer, answer_to, passes_numbers}
+use Rattle.cp_book.specs.Empties.{least_empty}
+use Rattle.cp_book.specs.Views.{BookView, current}
+use Rattle.cp_book.proofs.EmptyFacts.{has_empty-least}
+use Rattle.cp_book.proofs.Commits.{legal-open}
+use Rattle.cp_book.proofs.Choices.{answer-tested}
+use Rattle.cp_occ.specs.Cells.{CellView, variables_of, lists_of}
+use Rattle.cp_occ.specs.Changes.{lists_after}
+use Rattle.cp_yard.specs.Views.{Note, GotTurn, MetTurn, SeatView, noted, with_turn, without_turn, with_post}
+use Rattle.cp_hood.specs.Hoods.{HoldsJust}
+use Rattle.cp_hood.specs.Seats.{GoesOn, met_turns, noted_all}
+use Rattle.cp_hood.proofs.Following.{held-follow}
+
+-- ---- the seat
+
+with_notes : List Note → SeatView → SeatView
+with_notes ns v = record v { own = record v.own { notes = ns } }
+
+pub noted-none : (v : SeatView) → v ≡ noted_all (met_turns []) v
+unfolding with_notes
+noted-none v = ap (λ ns. with_notes ns v) (sym (append-nil v.own.notes))
+
+pub noted-push : (v : SeatView) (met : List ℕ) (by : ℕ) → noted (MetTurn by) (noted_all (met_turns met) v) ≡ noted_all (met_turns (met ++ by ∷ [])) v
+unfolding with_notes
+noted-push v met by = ap (λ ns. with_notes ns v)
+    (append_assoc v.own.notes (met_turns met) (MetTurn by ∷ []) ∙ ap (λ ns. v.own.notes ++ ns) (sym (map-append MetTurn met (by ∷ []))))
+
+module _ (v : SeatView) (met : List ℕ) where
+  pub GoesOn-met : (by : ℕ) → GoesOn v (noted (MetTurn by) (noted_all (met_turns met) v)) (met_turns met ++ MetTurn by ∷ []) []
+  GoesOn-met by = record { base = refl; number = refl; made = refl; own = refl; others = refl; notes = append_assoc v.own.notes (met_turns met) (MetTurn by ∷ []); posts = sym (append-nil v.own.posts) }
+
+  pub GoesOn-ended : (h : List Post) → GoesOn v (without_turn (with_turn h (noted_all (met_turns met) v))) (met_turns met ++ GotTurn h ∷ []) []
+  GoesOn-ended h = record { base = refl; number = refl; made = refl; own = refl; others = refl; notes = append_assoc v.own.notes (met_turns met) (GotTurn h ∷ []); posts = sym (append-nil v.own.posts) }
+
+  pub GoesOn-posted : (h : List Post) (n : ℕ) (p : Post) → GoesOn v (with_post n p (with_turn h (noted_all (met_turns met) v))) (met_turns met ++ GotTurn h ∷ []) ((n, p) ∷ [])
+  GoesOn-posted h n p = record { base = refl; number = refl; made = refl; own = refl; others = refl; notes = append_assoc v.own.notes (met_turns met) (GotTurn h ∷ []); posts = refl }
+
+  pub HoldsJust-met : (by : ℕ) (cells : List CellView) → HoldsJust v cells → HoldsJust (noted (MetTurn by) (noted_all (met_turns met) v)) cells
+  HoldsJust-met by cells h = record { turn = h.turn; range = h.range; held = h.held }
+
+  pub HoldsJust-ended : (j : List Post) (cells : List CellView) → HoldsJust v cells → HoldsJust (without_turn (with_turn j (noted_all (met_turns met) v))) cells
+  HoldsJust-ended j cells h = record { turn = refl; range = h.range; held = h.held }
+
+  pub HoldsJust-posted : (j : List Post) (n : ℕ) (p : Post) (old new : List CellView) → HoldsJust v old → variables_of new ≡ variables_of old → lists_of new ≡ lists_after old p.entry
+      → HoldsJust (with_post n p (with_turn j (noted_all (met_turns met) v))) new
+  HoldsJust-posted j n p old new h vs ls = record {
+    turn = refl;
+    range = λ k d l.
+        let long : length new ≡ length old = sym (length-map new (λ (c : CellView). c.variable)) ∙ ap length vs ∙ length-map old (λ (c : CellView). c.variable) in
+        let inside : k < length old = omega arith in
+        let same : (get_or new k d).variable ≡ (get_or old k d).variable =
+        sym (get_or-map (λ (c : CellView). c.variable) new k d 0 l) ∙ ap (λ xs. get_or xs k 0) vs ∙ get_or-map (λ (c : CellView). c.variable) old k d 0 inside in
+        subst (λ x. x ≤ v.base.formula.variables) (sym same) (h.range k d inside);
+    held = held-follow p.entry v.held old new h.held vs ls;
+  }
+
+-- ---- the book
+
+-- an answer that posts is no refusal
+pub posted-ok : (r : Result ℕ PostAnswer) (a : Answer) (n : ℕ) → given_answer r ≡ a → a ≡ Posted n → is_err r ≡ false
+posted-ok (Ok position) a n h p = refl
+posted-ok (Err (HeldRefuted empty entry)) a n h p = cc
+posted-ok (Err (HeldSpent len entry)) a n h p = cc
+posted-ok (Err (HeldNumbers next entry)) a n h p = cc
+posted-ok (Err (HeldStale entry)) a n h p = cc
+
+-- where no clause is empty, there is no least number of one
+pub least-none : (f : Formula) → has_empty f.clauses ≡ false → least_empty f.clauses ≡ None
+least-none f h = go (least_empty f.clauses) (sym (has_empty-least f.clauses) ∙ h)
+  where
+    go : (o : Rattle.std.proofs.Common.Option ℕ) → is_some o ≡ false → o ≡ None
+    go None h = refl
+    go (Some n) h = cc
+
+-- it posts a legal entry, unless it is stopped for all or for this one
+pub posts-legal : (b : BookView) (e : Entry) → has_empty (current b).clauses ≡ false → is_spent b.rules (commits b.posts) ≡ false → passes_numbers (current b) e ≡ false
+    → is_legal_in (current b).clauses b.rules (numbered (current b).next e) ≡ true → answer_to b e ≡ Posted (length b.posts)
+posts-legal b e filled unspent fits legal =
+    sym (answer-tested b e true (least-none (current b) filled) unspent fits (legal-open (current b) b.rules (numbered (current b).next e) filled legal))

@@ -1,0 +1,43 @@
+use Rattle.std.proofs.Common.{◌≡◌, [], ◌∷◌, ◌++◌, length, refl}
+use Rattle.cp_logic.specs.Journals.{Post}
+use Rattle.cp_logic.specs.Views.{entry_of}
+use Rattle.cp_book.specs.Answers.{answer_to}
+use Rattle.cp_book.specs.Views.{current}
+use Rattle.cp_hood.proofs.Following.{legal-change, HoldsAll-hood}
+use Rattle.cp_hood.proofs.Turns.{posted-ok}
+use Rattle.cp_hood.proofs.Outcomes.{on-ok, posts-made}
+use Rattle.cp_hood.proofs.posting.post.Goals as goal
+
+pub apply-requires-clause-change : goal.apply-requires-clause-change
+apply-requires-clause-change c =
+    let b = c.args.book in
+    legal-change (current b) b.rules (entry_of c.args.entry) c.args.hood.now c.is_hood.ensures c.requires.clauses c.requires.at c.requires.taken.legal c.is_legal.ensures.now c.requires.taken.numbered
+
+pub end_turn_with-requires-clause-post : goal.end_turn_with-requires-clause-post
+end_turn_with-requires-clause-post c =
+    let b = c.args.book in let e = entry_of c.args.entry in
+    let p : Post = record { worker = c.args.seat.now.view.number; round = c.args.round; entry = e } in
+    let ok = on-ok c.post_legal.result (posted-ok c.post_legal.result (answer_to b e) (length b.posts) c.post_legal.ensures.answer c.requires.taken.answer) c.post_legal.ensures.ok in (
+      b.posts,
+      p,
+      c.requires.turn,
+      posts-made b c.post_legal.new.self e c.args.seat.now.view.number c.number.result c.args.round ok c.number.ensures c.requires.taken.numbered,
+      refl,
+      HoldsAll-hood (current b) b.rules e c.args.hood.now c.is_hood.ensures c.requires.clauses c.requires.at c.requires.taken.legal c.args.seat.now.view.held c.requires.held,
+    )
+
+pub returns-clause-position : goal.returns-clause-position
+returns-clause-position c =
+    let b = c.args.book in let e = entry_of c.args.entry in
+    let p : Post = record { worker = c.args.seat.now.view.number; round = c.args.round; entry = e } in
+    let ok = on-ok c.post_legal.result (posted-ok c.post_legal.result (answer_to b e) (length b.posts) c.post_legal.ensures.answer c.requires.taken.answer) c.post_legal.ensures.ok in
+    c.end_turn_with.ensures.position b.posts p c.requires.turn
+    (posts-made b c.post_legal.new.self e c.args.seat.now.view.number c.number.result c.args.round ok c.number.ensures c.requires.taken.numbered)
+
+pub returns-clause-seat : goal.returns-clause-seat
+returns-clause-seat c =
+    let b = c.args.book in let e = entry_of c.args.entry in
+    let p : Post = record { worker = c.args.seat.now.view.number; round = c.args.round; entry = e } in
+    let ok = on-ok c.post_legal.result (posted-ok c.post_legal.result (answer_to b e) (length b.posts) c.post_legal.ensures.answer c.requires.taken.answer) c.post_legal.ensures.ok in
+    c.end_turn_with.ensures.seat b.posts p c.requires.turn
+    (posts-made b c.post_legal.new.self e c.args.seat.now.view.number c.number.result c.args.round ok c.number.ensures c.requires.taken.numbered)
