@@ -1,0 +1,4 @@
+pub mod Sizes
+pub mod Centres
+pub mod Commits
+pub mod Shifting

@@ -1,0 +1,189 @@
+-- A shift, visit by visit.
+use Rattle.std.proofs.Common.{◌≡◌, ℕ, ◌+◌, Bool, true, false, List, [], ◌∷◌, ◌++◌, map, append_assoc, append-nil, Option, Some, None, inl, inr, refl, sym, ◌∙◌, ap, subst}
+use Rattle.std.specs.Prelude.{◌⊎◌, is_some}
+use Rattle.std.specs.List.{All, Contains}
+use Rattle.std.proofs.lemmas.Bool.{false≢true}
+use Rattle.std.proofs.lemmas.List.{map-append}
+use Rattle.std.proofs.lemmas.List.Elements.{All-nil, All-cons, All-append, All-weaker, All-same, Contains-append_left, Contains-append_right, Contains-push, Contains-push_cases}
+use Rattle.cp_logic.specs.declared.settings.Stop.{Stop}
+use Rattle.cp_logic.specs.Journals.{Post}
+use Rattle.cp_logic.proofs.Members.{none_in}
+use Rattle.cp_claim.specs.Views.{View, DrawsOnly}
+use Rattle.cp_yard.specs.Views.{Base, Note, Got, GotTurn, Met, MetTurn, SeatView}
+use Rattle.cp_hood.specs.Seats.{GoesOn, EndWith}
+use Rattle.cp_hood.proofs.Going.{GoesOn-none, GoesOn-then}
+use Rattle.cp_worker.specs.declared.answer.AtAnswer.{AtAnswer}
+use Rattle.cp_worker.specs.declared.answer.AtAnswer.TheVariants.{Settled, Busy, Wide, TurnHeld, Stopped}
+use Rattle.cp_worker.specs.declared.lists.BusyAt.{BusyAt}
+use Rattle.cp_worker.specs.declared.lists.LateAt.{LateAt}
+use Rattle.cp_worker.specs.declared.lists.WideAt.{WideAt}
+use Rattle.cp_worker.specs.declared.lists.WorkerShift.{WorkerShift}
+use Rattle.cp_worker.specs.Visits.{IsVisit, HasCause, IsSettled, IsPostOf, positions, commits_of}
+use Rattle.cp_worker.specs.Listing.{IsListing, busy_of, late_of, wide_of, stopped_after}
+use Rattle.cp_worker.specs.Shifts.{IsShift, IsBusy, IsLate, IsWide, IsAccounted, IsStopped, candidates_of}
+use Rattle.cp_worker.proofs.Commits.{EndWith-later}
+
+in_end : (n : Note) (before noted : List Note) → EndWith n noted → Contains (before ++ noted) n
+in_end n before noted (first, e) = Contains-append_right before noted n (subst (λ (ns : List Note). Contains ns n) (sym e) (Contains-push first n))
+
+none_some : {X : Type 0} (o : Option X) (x : X) → o ≡ None → o ≡ Some x → ⊥
+none_some o x e h = cc
+
+some_same : {X : Type 0} (x y : X) → Some x ≡ Some y → x ≡ y
+some_same x y e = cc
+
+pub none_from : {X : Type 0} (o : Option X) (b : Bool) → b ≡ is_some o → b ≡ false → o ≡ None
+none_from None b e f = refl
+none_from (Some x) b e f = absurd (false≢true (sym f ∙ e))
+
+module _ (f : Base) (number x in_round limit : ℕ) (noted more : List Note) (posted posts : List (ℕ × Post)) where
+  busy_here : (answer : AtAnswer) → HasCause f x limit more posts answer → All (IsBusy (noted ++ more)) (busy_of x answer)
+  busy_here (Settled commits) h = All-nil (IsBusy (noted ++ more))
+  busy_here (Busy var by) h = All-cons (IsBusy (noted ++ more)) (record { at = x; var = var; by = by }) [] (in_end (Met var by) noted more h) (All-nil (IsBusy (noted ++ more)))
+  busy_here (Wide count) h = All-nil (IsBusy (noted ++ more))
+  busy_here (TurnHeld by commits) h = All-nil (IsBusy (noted ++ more))
+  busy_here (Stopped stop commits) h = All-nil (IsBusy (noted ++ more))
+
+  late_here : (answer : AtAnswer) → HasCause f x limit more posts answer → All (IsLate (noted ++ more)) (late_of x answer)
+  late_here (Settled commits) h = All-nil (IsLate (noted ++ more))
+  late_here (Busy var by) h = All-nil (IsLate (noted ++ more))
+  late_here (Wide count) h = All-nil (IsLate (noted ++ more))
+  late_here (TurnHeld by commits) h = All-cons (IsLate (noted ++ more)) (record { at = x; by = by }) [] (in_end (MetTurn by) noted more h) (All-nil (IsLate (noted ++ more)))
+  late_here (Stopped stop commits) h = All-nil (IsLate (noted ++ more))
+
+  wide_here : (answer : AtAnswer) → HasCause f x limit more posts answer → All (IsWide limit (noted ++ more)) (wide_of x answer)
+  wide_here (Settled commits) h = All-nil (IsWide limit (noted ++ more))
+  wide_here (Busy var by) h = All-nil (IsWide limit (noted ++ more))
+  wide_here (Wide count) (cs, e, n, l) =
+      All-cons (IsWide limit (noted ++ more)) (record { at = x; count = count }) [] (cs, in_end (Got x cs) noted more e, n, l) (All-nil (IsWide limit (noted ++ more)))
+  wide_here (TurnHeld by commits) h = All-nil (IsWide limit (noted ++ more))
+  wide_here (Stopped stop commits) h = All-nil (IsWide limit (noted ++ more))
+
+  stopped_here : (answer : AtAnswer) (stop : Stop) (o now : Option Stop) → HasCause f x limit more posts answer → o ≡ None → now ≡ stopped_after answer o → now ≡ Some stop
+      → IsStopped f (noted ++ more) stop
+  stopped_here (Settled commits) stop o now h n e s = absurd (none_some o stop n (sym e ∙ s))
+  stopped_here (Busy var by) stop o now h n e s = absurd (none_some o stop n (sym e ∙ s))
+  stopped_here (Wide count) stop o now h n e s = absurd (none_some o stop n (sym e ∙ s))
+  stopped_here (TurnHeld by commits) stop o now h n e s = absurd (none_some o stop n (sym e ∙ s))
+  stopped_here (Stopped found commits) stop o now (j, entry, ended, at, refused) n e s =
+      subst (IsStopped f (noted ++ more)) (some_same found stop (sym e ∙ s)) (j, entry, EndWith-later (GotTurn j) noted more ended, refused)
+
+  -- the candidate itself
+  account_here : (answer : AtAnswer) (old new : WorkerShift) → HasCause f x limit more posts answer → IsListing x answer old new
+      → IsAccounted f (noted ++ more) (posted ++ posts) new x ⊎ ((stop : Stop) × (new.stopped ≡ Some stop))
+  account_here (Settled commits) old new (before, cs, after, e, none) l =
+      inl (inr (inr (inr (
+        posted,
+        posts,
+        [],
+        ap (λ (ps : List (ℕ × Post)). posted ++ ps) (sym (append-nil posts)),
+        (noted ++ before, cs, after, ap (λ (ns : List Note). noted ++ ns) e ∙ sym (append_assoc noted before (Got x cs ∷ after)), none),
+      ))))
+  account_here (Busy var by) old new h l =
+      let b : BusyAt = record { at = x; var = var; by = by } in
+      inl (inl (b, subst (λ (bs : List BusyAt). Contains bs b) (sym l.busy) (Contains-push old.busy.items b), refl))
+  account_here (Wide count) old new h l =
+      let w : WideAt = record { at = x; count = count } in
+      inl (inr (inr (inl (w, subst (λ (ws : List WideAt). Contains ws w) (sym l.wide) (Contains-push old.wide.items w), refl))))
+  account_here (TurnHeld by commits) old new h l =
+      let b : LateAt = record { at = x; by = by } in
+      inl (inr (inl (b, subst (λ (bs : List LateAt). Contains bs b) (sym l.late) (Contains-push old.late.items b), refl)))
+  account_here (Stopped stop commits) old new h l = inr (stop, l.stopped)
+
+  settled_later : (y : ℕ) (own : List (ℕ × Post)) → IsSettled f y noted own → IsSettled f y (noted ++ more) own
+  settled_later y own (before, cs, after, e, none) = (before, cs, after ++ more, ap (λ (ns : List Note). ns ++ more) e ∙ append_assoc before (Got y cs ∷ after) more, none)
+
+  -- a candidate that was drawn before
+  account_later : (answer : AtAnswer) (old new : WorkerShift) (y : ℕ) → IsListing x answer old new → IsAccounted f noted posted old y → IsAccounted f (noted ++ more) (posted ++ posts) new y
+  account_later answer old new y l (inl (b, i, e)) = inl (b, subst (λ (bs : List BusyAt). Contains bs b) (sym l.busy) (Contains-append_left old.busy.items (busy_of x answer) b i), e)
+  account_later answer old new y l (inr (inl (b, i, e))) = inr (inl (b, subst (λ (bs : List LateAt). Contains bs b) (sym l.late) (Contains-append_left old.late.items (late_of x answer) b i), e))
+  account_later answer old new y l (inr (inr (inl (w, i, e)))) = inr (inr (inl (w, subst (λ (ws : List WideAt). Contains ws w) (sym l.wide) (Contains-append_left old.wide.items (wide_of x answer) w i), e)))
+  account_later answer old new y l (inr (inr (inr (before, own, after, e, s)))) =
+      inr (inr (inr (
+        before,
+        own,
+        after ++ posts,
+        ap (λ (ps : List (ℕ × Post)). ps ++ posts) e ∙ append_assoc before (own ++ after) posts ∙ ap (λ (ps : List (ℕ × Post)). before ++ ps) (append_assoc own after posts),
+        settled_later y own s,
+      )))
+
+-- nothing was drawn yet
+pub starts-shift : (f : Base) (number in_round limit : ℕ) (s : WorkerShift) → s.worker ≡ number → s.round ≡ in_round → s.taken.items ≡ [] → s.commits.items ≡ [] → s.busy.items ≡ [] → s.late.items ≡ []
+    → s.wide.items ≡ [] → s.stopped ≡ None → IsShift f number in_round limit [] [] [] s
+starts-shift f number in_round limit s w r t c b l d n = record {
+  worker = w;
+  round = r;
+  taken = t;
+  commits = c;
+  posts = All-nil (IsPostOf number in_round);
+  busy = All-same (IsBusy []) s.busy.items [] b (All-nil (IsBusy []));
+  late = All-same (IsLate []) s.late.items [] l (All-nil (IsLate []));
+  wide = All-same (IsWide limit []) s.wide.items [] d (All-nil (IsWide limit []));
+  accounted = λ x i. absurd (none_in x (subst (λ (xs : List ℕ). Contains xs x) t i));
+  stopped = λ stop e. absurd (none_some s.stopped stop n e);
+}
+
+-- one visit more
+pub visits-more : (f : Base) (number in_round limit : ℕ) (noted more : List Note) (posted posts : List (ℕ × Post)) (drawn : List ℕ) (n : ℕ) (answer : AtAnswer) (old new : WorkerShift)
+    → old.stopped ≡ None → IsShift f number in_round limit noted posted drawn old → IsVisit f number (n + 1) in_round limit more posts answer → IsListing (n + 1) answer old new
+    → IsShift f number in_round limit (noted ++ more) (posted ++ posts) (drawn ++ n ∷ []) new
+visits-more f number in_round limit noted more posted posts drawn n answer old new unstopped s v l = record {
+  worker = l.worker ∙ s.worker;
+  round = l.round ∙ s.round;
+  taken = l.taken ∙ ap (λ (xs : List ℕ). xs ++ (n + 1) ∷ []) s.taken ∙ sym (map-append (λ k. k + 1) drawn (n ∷ []));
+  commits = l.commits ∙ ap (λ (ns : List ℕ). ns ++ commits_of answer) s.commits ∙ ap (λ (ns : List ℕ). positions posted ++ ns) v.commits
+      ∙ sym (map-append (λ (q : ℕ × Post). q.0) posted posts);
+  posts = All-append (IsPostOf number in_round) posted posts s.posts v.posts;
+  busy = All-same (IsBusy (noted ++ more)) new.busy.items (old.busy.items ++ busy_of (n + 1) answer) l.busy
+      (All-append (IsBusy (noted ++ more)) old.busy.items (busy_of (n + 1) answer)
+      (All-weaker (IsBusy noted) (IsBusy (noted ++ more)) (λ b i. Contains-append_left noted more (Met b.var b.by) i) old.busy.items s.busy)
+      (busy_here f number (n + 1) in_round limit noted more posted posts answer v.cause));
+  late = All-same (IsLate (noted ++ more)) new.late.items (old.late.items ++ late_of (n + 1) answer) l.late
+      (All-append (IsLate (noted ++ more)) old.late.items (late_of (n + 1) answer)
+      (All-weaker (IsLate noted) (IsLate (noted ++ more)) (λ b i. Contains-append_left noted more (MetTurn b.by) i) old.late.items s.late)
+      (late_here f number (n + 1) in_round limit noted more posted posts answer v.cause));
+  wide = All-same (IsWide limit (noted ++ more)) new.wide.items (old.wide.items ++ wide_of (n + 1) answer) l.wide
+      (All-append (IsWide limit (noted ++ more)) old.wide.items (wide_of (n + 1) answer)
+      (All-weaker (IsWide limit noted) (IsWide limit (noted ++ more)) (λ w h. (h.0, Contains-append_left noted more (Got w.at h.0) h.1, h.2, h.3)) old.wide.items s.wide)
+      (wide_here f number (n + 1) in_round limit noted more posted posts answer v.cause));
+  accounted = λ x i. elim (Contains-push_cases old.taken.items (n + 1) x (subst (λ (xs : List ℕ). Contains xs x) l.taken i)) [
+    | inl j ↦ elim (s.accounted x j) [
+      | inl a ↦ inl (account_later f number (n + 1) in_round limit noted more posted posts answer old new x l a)
+      | inr e ↦ absurd (none_some old.stopped e.0 unstopped e.1)
+    ]
+    | inr e ↦ subst (λ z. IsAccounted f (noted ++ more) (posted ++ posts) new z ⊎ ((stop : Stop) × (new.stopped ≡ Some stop))) e
+        (account_here f number (n + 1) in_round limit noted more posted posts answer old new v.cause l)
+  ];
+  stopped = λ stop e. stopped_here f number (n + 1) in_round limit noted more posted posts answer stop old.stopped new.stopped v.cause unstopped l.stopped e;
+}
+
+-- a shift under way: what was noted, posted and drawn, and what is listed of it
+pub record IsGoing (v w : SeatView) (first now : List ℕ) (in_round limit : ℕ) (s : WorkerShift) : Type 0 where
+  pub noted : List Note
+  pub posted : List (ℕ × Post)
+  pub drawn : List ℕ
+  pub goes : GoesOn v w noted posted
+  pub draws : now ≡ first ++ drawn
+  pub shift : IsShift v.base v.number in_round limit noted posted drawn s
+
+pub starts : (v : SeatView) (first : List ℕ) (in_round limit : ℕ) (s : WorkerShift) → IsShift v.base v.number in_round limit [] [] [] s → IsGoing v v first first in_round limit s
+starts v first in_round limit s h = record { noted = []; posted = []; drawn = []; goes = GoesOn-none v; draws = sym (append-nil first); shift = h }
+
+pub more_going : (v w u : SeatView) (first now : List ℕ) (in_round limit n : ℕ) (answer : AtAnswer) (old new : WorkerShift) (more : List Note) (posts : List (ℕ × Post))
+    → old.stopped ≡ None → IsGoing v w first now in_round limit old → GoesOn w u more posts → IsVisit w.base w.number (n + 1) old.round limit more posts answer → IsListing (n + 1) answer old new
+    → IsGoing v u first (now ++ n ∷ []) in_round limit new
+more_going v w u first now in_round limit n answer old new more posts unstopped i go h l = record {
+  noted = i.noted ++ more;
+  posted = i.posted ++ posts;
+  drawn = i.drawn ++ n ∷ [];
+  goes = GoesOn-then v w u i.noted more i.posted posts i.goes go;
+  draws = ap (λ (ns : List ℕ). ns ++ n ∷ []) i.draws ∙ append_assoc first i.drawn (n ∷ []);
+  shift = visits-more v.base v.number in_round limit i.noted more i.posted posts i.drawn n answer old new unstopped i.shift
+      (subst (λ (f : Base). IsVisit f v.number (n + 1) in_round limit more posts answer) i.goes.base
+      (subst (λ k. IsVisit w.base k (n + 1) in_round limit more posts answer) i.goes.number
+      (subst (λ k. IsVisit w.base w.number (n + 1) k limit more posts answer) i.shift.round h)))
+      l;
+}
+
+pub draws-then : (u v w : View) → DrawsOnly u v → DrawsOnly v w → DrawsOnly u w
+draws-then u v w g h = h ∙ ap (λ (z : View). record z { drawn = w.drawn; mine = record z.mine { end = w.mine.end } }) g

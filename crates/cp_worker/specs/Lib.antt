@@ -1,0 +1,4 @@
+pub mod Visits
+pub mod Posting
+pub mod Listing
+pub mod Shifts

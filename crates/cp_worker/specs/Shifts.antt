@@ -1,0 +1,55 @@
+-- A shift: the visits of one worker in one round.
+use Rattle.std.specs.Prelude.{◌≡◌, ◌⊎◌, ℕ, ◌+◌, ◌<◌, Some, List, map, length, ◌++◌}
+use Rattle.std.specs.List.{All, Contains}
+use Rattle.cp_logic.specs.declared.named.Named.{Named}
+use Rattle.cp_logic.specs.declared.settings.Stop.{Stop}
+use Rattle.cp_logic.specs.Formulas.{neighbourhood}
+use Rattle.cp_logic.specs.Entries.{Entry}
+use Rattle.cp_logic.specs.Journals.{Post}
+use Rattle.cp_yard.specs.Views.{Base, Note, Got, GotTurn, Met, MetTurn}
+use Rattle.cp_hood.specs.Seats.{EndWith}
+use Rattle.cp_hood.specs.Commits.{IsStopAfter}
+use Rattle.cp_worker.specs.declared.lists.BusyAt.{BusyAt}
+use Rattle.cp_worker.specs.declared.lists.LateAt.{LateAt}
+use Rattle.cp_worker.specs.declared.lists.WideAt.{WideAt}
+use Rattle.cp_worker.specs.declared.lists.WorkerShift.{WorkerShift}
+use Rattle.cp_worker.specs.Visits.{positions, IsPostOf, IsSettled}
+
+-- the candidates of the numbers drawn: variables are counted from 1
+abbrev pub candidates_of : List ℕ → List ℕ
+candidates_of drawn = map (λ n. n + 1) drawn
+
+abbrev pub IsBusy : List Note → BusyAt → Type 0
+IsBusy noted b = Contains noted (Met b.var b.by)
+
+abbrev pub IsLate : List Note → LateAt → Type 0
+IsLate noted l = Contains noted (MetTurn l.by)
+
+abbrev pub IsWide : ℕ → List Note → WideAt → Type 0
+IsWide limit noted w = (cs : List Named) × Contains noted (Got w.at cs) × (w.count ≡ length (neighbourhood cs w.at)) × (limit < w.count)
+
+-- the candidate is in a list, with its cause, or is settled: got, and after some of these posts nothing applied there
+abbrev pub IsAccounted : Base → List Note → List (ℕ × Post) → WorkerShift → ℕ → Type 0
+IsAccounted f noted posted s x =
+    ((b : BusyAt) × Contains s.busy.items b × (b.at ≡ x))
+    ⊎ (((l : LateAt) × Contains s.late.items l × (l.at ≡ x))
+    ⊎ (((w : WideAt) × Contains s.wide.items w × (w.at ≡ x))
+    ⊎ ((before own more : List (ℕ × Post)) × (posted ≡ before ++ (own ++ more)) × IsSettled f x noted own)))
+
+-- the shift ended at a turn that it got, where an entry was refused for this reason
+abbrev pub IsStopped : Base → List Note → Stop → Type 0
+IsStopped f noted stop = (h : List Post) × (e : Entry) × EndWith (GotTurn h) noted × IsStopAfter f h e stop
+
+-- what a shift of the worker in the round comes to, with the numbers that it drew
+pub record IsShift (f : Base) (number in_round limit : ℕ) (noted : List Note) (posted : List (ℕ × Post)) (drawn : List ℕ) (s : WorkerShift) : Type 0 where
+  pub worker : s.worker ≡ number
+  pub round : s.round ≡ in_round
+  pub taken : s.taken.items ≡ candidates_of drawn
+  pub commits : s.commits.items ≡ positions posted
+  pub posts : All (IsPostOf number in_round) posted
+  pub busy : All (IsBusy noted) s.busy.items
+  pub late : All (IsLate noted) s.late.items
+  pub wide : All (IsWide limit noted) s.wide.items
+  -- each candidate is accounted for, but the last of a shift that stopped
+  pub accounted : (x : ℕ) → Contains s.taken.items x → IsAccounted f noted posted s x ⊎ ((stop : Stop) × (s.stopped ≡ Some stop))
+  pub stopped : (stop : Stop) → s.stopped ≡ Some stop → IsStopped f noted stop

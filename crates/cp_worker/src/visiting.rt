@@ -1,0 +1,192 @@
+//! A visit: the tries of one candidate's neighbourhood, and the commits under its locks.
+//!
+//! A refused try holds nothing, and after three the candidate is left: the back-off of the rounds, which never waits. Under a whole
+//! neighbourhood the worker searches the candidate's cell and commits what it finds, until the search gives nothing.
+ghost use Rattle.std.specs.Prelude.{◌≡◌, ◌≤◌, ◌∷◌, ◌++◌, [], ℕ, List, IfOk, IfErr, OnOk, OnErr};
+ghost use Rattle.cp_logic.specs.Journals.{Post};
+ghost use Rattle.cp_logic.specs.Views.{entry_of};
+ghost use Rattle.cp_yard.specs.Views.{Note, Got};
+ghost use Rattle.cp_hood.specs.Hoods.{HoldsJust, IsIdle, IsLegalAt, centre_clauses};
+ghost use Rattle.cp_hood.specs.Seats.{GoesOn};
+ghost use Rattle.cp_hood.specs.Tries.{IsTry};
+ghost use Rattle.cp_worker.specs.Visits.{IsVisit, commits_of};
+ghost use Rattle.cp_worker.specs.Posting.{HasPosted, IsRefusal, IsCauseOf, IsLeft};
+
+use crate::answer::AtAnswer;
+use crate::gate::{Gate, GateEvent};
+use crate::lists::Positions;
+use cp_eliminate::search;
+use cp_hood::{CommitAnswer, Hood, HoodAnswer, commit, release, try_hood};
+use cp_logic::{Entry, Opts, Rules, Stop};
+use cp_yard::{Seat, Yard};
+use std::alloc::{AllocError, Global};
+
+// How often a visit tries the neighbourhood, and a commit the turn.
+const HOOD_TRIES: u32 = 3;
+
+const TURN_TRIES: u32 = 64;
+
+/// Visits the variable `x` in the round: tries its neighbourhood at most three times, and under its locks posts what the search
+/// gives, until it gives nothing. Each post tries the turn at most 64 times.
+///
+/// Afterwards the seat holds nothing, also after the error, which comes only for want of memory; the posts made until then stand.
+pub fn try_at<G: Gate>(
+    alloc: Global,
+    yard: &Yard,
+    seat: &mut Seat,
+    x: u32,
+    round: u32,
+    opts: &Opts,
+    gate: &G,
+) -> Result<AtAnswer, AllocError>
+    requires table { seat.old.table ≡ yard.now.table }
+    requires base { seat.old.view.base ≡ yard.now.base }
+    requires rules { opts.now.rules ≡ yard.now.base.rules }
+    requires low { 1 ≤ x }
+    requires high { x ≤ yard.now.base.formula.variables }
+    requires idle { IsIdle seat.old.view }
+    ensures table { seat.new.table ≡ seat.old.table }
+    ensures visit { (noted : List Note) × (posted : List (ℕ × Post)) × GoesOn seat.old.view seat.new.view noted posted × IfOk result (IsVisit seat.old.view.base seat.old.view.number x round opts.now.hood noted posted) }
+    ensures idle { IsIdle seat.new.view }
+{
+    match try_again(alloc, yard, seat, x, opts.hood) {
+        Ok(hood) => visit_under(alloc, yard, seat, hood, round, opts, gate),
+        Err(answer) => left(answer),
+    }
+}
+
+// How a visit ends whose last try got no neighbourhood.
+fn left(answer: HoodAnswer) -> Result<AtAnswer, AllocError>
+    ensures { IfOk result (IsLeft answer) }
+{
+    match answer {
+        HoodAnswer::Busy { var, by } => Ok(AtAnswer::Busy { var, by }),
+        HoodAnswer::Wide { count } => Ok(AtAnswer::Wide { count }),
+        HoodAnswer::NoMemory => Err(AllocError),
+    }
+}
+
+// Tries the neighbourhood until a try meets no held lock, at most three times.
+fn try_again(
+    alloc: Global,
+    yard: &Yard,
+    seat: &mut Seat,
+    x: u32,
+    limit: u32,
+) -> Result<Hood, HoodAnswer>
+    requires table { seat.old.table ≡ yard.now.table }
+    requires base { seat.old.view.base ≡ yard.now.base }
+    requires low { 1 ≤ x }
+    requires high { x ≤ yard.now.base.formula.variables }
+    requires idle { IsIdle seat.old.view }
+    ensures table { seat.new.table ≡ seat.old.table }
+    ensures tries { (before last : List Note) × GoesOn seat.old.view seat.new.view (before ++ last) [] × IsTry x limit last result }
+    ensures holds { IfOk result (λ h. HoldsJust seat.new.view h.cells) }
+    ensures idle { OnErr result (IsIdle seat.new.view) }
+{
+    for k in 1..HOOD_TRIES {
+        let _ = k;
+        match try_hood(alloc, yard, seat, x, limit) {
+            Err(HoodAnswer::Busy { .. }) => {}
+            answer => return answer,
+        }
+    }
+    try_hood(alloc, yard, seat, x, limit)
+}
+
+// The visit under the locks of the neighbourhood, which are given back.
+fn visit_under<G: Gate>(
+    alloc: Global,
+    yard: &Yard,
+    seat: &mut Seat,
+    hood: Hood,
+    round: u32,
+    opts: &Opts,
+    gate: &G,
+) -> Result<AtAnswer, AllocError>
+    requires table { seat.old.table ≡ yard.now.table }
+    requires base { seat.old.view.base ≡ yard.now.base }
+    requires rules { opts.now.rules ≡ yard.now.base.rules }
+    requires holds { HoldsJust seat.old.view hood.cells }
+    ensures table { seat.new.table ≡ seat.old.table }
+    ensures visit { (noted : List Note) × (posted : List (ℕ × Post)) × GoesOn seat.old.view seat.new.view noted posted × ((limit : ℕ) (before more : List Note) → IfOk result (IsVisit seat.old.view.base seat.old.view.number hood.centre round limit (before ++ Got hood.centre (centre_clauses hood) ∷ (more ++ noted)) posted)) }
+    ensures idle { IsIdle seat.new.view }
+{
+    let mut hood = hood;
+    let var = hood.centre().var();
+    gate.at(seat.number(), GateEvent::HoodHeld { var });
+    let answer = commit_all(alloc, yard, seat, &mut hood, round, &opts.rules);
+    release(yard, seat, hood);
+    gate.at(seat.number(), GateEvent::Released { var });
+    answer
+}
+
+// Posts what the search at the centre gives, until it gives nothing or an entry is refused. What was noted before has the centre.
+fn commit_all(
+    alloc: Global,
+    yard: &Yard,
+    seat: &mut Seat,
+    hood: &mut Hood,
+    round: u32,
+    rules: &Rules,
+) -> Result<AtAnswer, AllocError>
+    requires table { seat.old.table ≡ yard.now.table }
+    requires base { seat.old.view.base ≡ yard.now.base }
+    requires rules { rules.now ≡ yard.now.base.rules }
+    requires holds { HoldsJust seat.old.view hood.old.cells }
+    ensures table { seat.new.table ≡ seat.old.table }
+    ensures visit { (noted : List Note) × (posted : List (ℕ × Post)) × GoesOn seat.old.view seat.new.view noted posted × ((limit : ℕ) (before more : List Note) → IfOk result (IsVisit seat.old.view.base seat.old.view.number hood.old.centre round limit (before ++ Got hood.old.centre (centre_clauses hood.old) ∷ (more ++ noted)) posted)) }
+    ensures holds { HoldsJust seat.new.view hood.new.cells }
+{
+    let mut commits = Positions::new(alloc);
+    'commits: while let Some(entry) = search(alloc, hood.centre(), rules, 1)? {
+        if let Err(answer) = post(alloc, yard, seat, hood, entry, round, &mut commits) {
+            return refused(answer, commits);
+        }
+    }
+    Ok(AtAnswer::Settled { commits })
+}
+
+// Posts the entry and lists its position. All memory is taken before the post, so that no post goes unlisted.
+fn post(
+    alloc: Global,
+    yard: &Yard,
+    seat: &mut Seat,
+    hood: &mut Hood,
+    entry: Entry,
+    round: u32,
+    commits: &mut Positions,
+) -> Result<(), CommitAnswer>
+    requires table { seat.old.table ≡ yard.now.table }
+    requires base { seat.old.view.base ≡ yard.now.base }
+    requires holds { HoldsJust seat.old.view hood.old.cells }
+    requires legal { IsLegalAt yard.now.base.rules hood.old (entry_of entry) }
+    ensures table { seat.new.table ≡ seat.old.table }
+    ensures post { (noted : List Note) × (posted : List (ℕ × Post)) × GoesOn seat.old.view seat.new.view noted posted × OnOk result (HasPosted seat.old.view.base seat.old.view.number round (entry_of entry) hood.old hood.new commits.old.items commits.new.items posted) × IfErr result (λ answer. (posted ≡ []) × IsRefusal seat.old.view.base (entry_of entry) noted answer) }
+    ensures same { OnErr result (commits.new.items ≡ commits.old.items) }
+    ensures holds { HoldsJust seat.new.view hood.new.cells }
+{
+    if commits.reserve(1).is_err() {
+        return Err(CommitAnswer::NoMemory);
+    }
+    let Ok(prepared) = hood.prepare(alloc, &entry) else {
+        return Err(CommitAnswer::NoMemory);
+    };
+    let receipt = commit(yard, seat, hood, prepared, entry, round, TURN_TRIES)?;
+    commits.push_reserved(receipt.position);
+    Ok(())
+}
+
+// How a visit ends whose last entry was not posted.
+fn refused(answer: CommitAnswer, commits: Positions) -> Result<AtAnswer, AllocError>
+    ensures { IfOk result (λ a. (commits_of a ≡ commits.items) × IsCauseOf answer a) }
+{
+    let stop = match answer {
+        CommitAnswer::TurnHeld { by } => return Ok(AtAnswer::TurnHeld { by, commits }),
+        CommitAnswer::NoMemory => return Err(AllocError),
+        CommitAnswer::Refuted { .. } => Stop::Refuted,
+        CommitAnswer::Spent { .. } => Stop::Spent,
+        CommitAnswer::Numbers { .. } => Stop::Numbers,
+    };
+    Ok(AtAnswer::Stopped { stop, commits })
+}
