@@ -117,7 +117,7 @@ refusal-of f worker in_round tries e old new notes posts (TurnHeld by) (m, p, s)
 refusal-of f worker in_round tries e old new notes posts (Refuted empty) (h, t, l, stop, p, s) = (p, (h, (map MetTurn t.0, t.2), stop))
 refusal-of f worker in_round tries e old new notes posts (Spent len) (h, t, l, stop, p, s) = (p, (h, (map MetTurn t.0, t.2), stop))
 refusal-of f worker in_round tries e old new notes posts (Numbers next) (h, t, l, stop, p, s) = (p, (h, (map MetTurn t.0, t.2), stop))
-refusal-of f worker in_round tries e old new notes posts NoMemory (p, s) = (p, tt)
+refusal-of f worker in_round tries e old new notes posts NoMemory (h, t, p, s) = (p, tt)
 
 pub refused-goes : (v w u : SeatView) (x in_round : ℕ) (cs now : List Named) (listed : List ℕ) (noted : List Note) (posted : List (ℕ × Post)) (way : IsUnderWay v w x in_round cs now listed)
     → GoesOn w u noted posted → posted ≡ [] → GoesOn v u (way.noted ++ noted) way.posted

@@ -20,3 +20,10 @@ pub use lists::{
 };
 pub use visiting::try_at;
 pub use working::shift;
+
+// What a worker did may be moved between threads.
+fn may_move<T: Send>() {}
+
+pub(crate) fn cross_threads() {
+    may_move::<WorkerShift>();
+}

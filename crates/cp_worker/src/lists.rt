@@ -34,10 +34,13 @@ pub type VarList = Items<u32>;
 /// Positions in the journal, counted from 0.
 pub type Positions = Items<u64>;
 
+/// Candidates that were left at a held lock.
 pub type BusyList = Items<BusyAt>;
 
+/// Candidates that were left at a held turn.
 pub type LateList = Items<LateAt>;
 
+/// Candidates that were left as too wide.
 pub type WideList = Items<WideAt>;
 
 /// What one worker did in one round.
@@ -87,6 +90,7 @@ impl WorkerShift {
         ensures few { OnOk result (length self.new.taken.items < 2 ^ 64) }
     {
         self.taken.push(at)?;
+        // A list has fewer than 2^64 items, so the draws of a shift come to an end.
         self.taken.len();
         match answer {
             AtAnswer::Settled { commits } => append(&mut self.commits, &commits),

@@ -59,7 +59,7 @@ pub fn shift<G: Gate>(
     Ok(shift)
 }
 
-// Visits the candidate, and lists it with how the visit ended. A list has fewer items than a `u64` counts, so draws come to an end.
+// Visits the candidate, and lists it with how the visit ended.
 fn visit<G: Gate>(
     alloc: Global,
     yard: &Yard,
