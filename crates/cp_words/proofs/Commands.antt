@@ -4,8 +4,9 @@ use Rattle.std.specs.Prelude.{◌⊎◌, Err, IsErrAnd, Ok, Result}
 use Rattle.clap.specs.Words.{AddsArg, App, IsParsedFrom, Row, Rule, Text, app_of, found_of, is_simple_and_free, rows_of, with_rule}
 use Rattle.clap.specs.declared.builder.arg.Arg.{Arg}
 use Rattle.clap.specs.declared.builder.command.Command.{Command}
+use Rattle.clap.specs.declared.builder.value_parser.ValueParser.{ValueParser}
 use Rattle.clap.specs.declared.parser.matches.ArgMatches.{ArgMatches}
-use Rattle.cp_words.specs.Commands.{HasGenerateNumbers, HasSimplifyNumbers, IsOption, command, extend_command, generate_command, numbers_32, numbers_64, simplify_command, taken, text_at}
+use Rattle.cp_words.specs.Commands.{HasGenerateNumbers, HasSimplifyNumbers, IsOption, command, extend_command, generate_command, number_option, numbers_32, numbers_64, simplify_command, taken, text_at}
 use Rattle.cp_words.specs.Words.{extend_at, extend_found, extend_roles, given_by, is_command, simplify_at, simplify_by, simplify_found, simplify_roles, with_found}
 use Rattle.cp_logic.specs.declared.settings.Choice.{Choice}
 use Rattle.cp_words.specs.Answers.{Answers}
@@ -21,6 +22,16 @@ use Rattle.cp_words.proofs.Accepted.{IsExact, number_taken}
 pub added : (name : Text) (options : List Rule) (option : Rule) (old new : Command) (a : Arg) → app_of old ≡ command name options → IsOption option a
     → AddsArg old a new → app_of new ≡ command name (options ++ option ∷ [])
 added name options option old new a is one adds = adds.shape one.1 ∙ ap₂ with_rule is one.0
+
+-- a command, whatever its options, with one more
+pub with_one : (option : Rule) (app : App) (old new : Command) (a : Arg) → app_of old ≡ app → IsOption option a → AddsArg old a new → app_of new ≡ with_rule app option
+with_one option app old new a is one adds = adds.shape one.1 ∙ ap₂ with_rule is one.0
+
+-- and with one of a number
+pub with_number : (id : Text) (q seen : ValueParser) (default : Text) (app : App) (old new : Command) (a : Arg) → app_of old ≡ app → seen ≡ q
+    → IsOption (number_option id seen default) a → AddsArg old a new → app_of new ≡ with_rule app (number_option id q default)
+with_number id q seen default app old new a is parser one adds =
+    with_one (number_option id q default) app old new a is (subst (λ (p : ValueParser). IsOption (number_option id p default) a) parser one) adds
 
 pub simplify_simple : is_simple_and_free simplify_command ≡ true
 unfolding simplify_command

@@ -1,9 +1,9 @@
 -- The commands as clap reads their words: each option takes one value, and no option excludes or requires another.
-use Rattle.std.specs.Prelude.{◌≡◌, ◌==◌, ℕ, Bool, true, false, List, [], ◌∷◌, Option, Some, None, pos, codes, length, unwrap_or, if◌then◌else◌}
+use Rattle.std.specs.Prelude.{◌≡◌, ◌==◌, ◌++◌, ℕ, Bool, true, false, List, [], ◌∷◌, Option, Some, None, pos, codes, length, unwrap_or, if◌then◌else◌}
 use Rattle.std.specs.Option.{option_map_or}
 use Rattle.std.specs.Str.{bytes_eq}
 use Rattle.std.specs.Str.Parse.{digits_value, without_leading_plus}
-use Rattle.clap.specs.Words.{Accepts, App, Kinds, Row, Rule, Text, fault_of, first_of, matches_of, new_rule, one_of, read_as, reading_of, rule_of}
+use Rattle.clap.specs.Words.{Accepts, App, Kinds, Row, Rule, Text, fault_of, first_of, matches_of, new_rule, one_of, read_as, reading_of, rule_of, with_rule}
 use Rattle.clap.specs.Simple.{new_shape}
 use Rattle.clap.specs.declared.builder.action.ArgAction.TheVariants.{Set}
 use Rattle.clap.specs.declared.builder.arg.Arg.{Arg}
@@ -34,19 +34,32 @@ numbers_64 low high = vp.Unsigned low high
 abbrev pub command : Text → List Rule → App
 command name options = record { top = record (new_shape name) { rules = options }; subs = [] }
 
-unfoldable pub simplify_command : App
-simplify_command = command (codes "simplify")
-    (text_option (codes "cnf") (codes "std")
+-- a command with these options behind its own
+abbrev pub with_options : App → List Rule → App
+with_options app [] = app
+with_options app (option ∷ options) = with_options (with_rule app option) options
+
+-- the names of the roles of `simplify`
+abbrev pub role_options : List Rule
+role_options = text_option (codes "cnf") (codes "std")
     ∷ text_option (codes "reduced") (codes "std")
     ∷ text_option (codes "stack") (codes "none")
     ∷ text_option (codes "proof") (codes "none")
     ∷ text_option (codes "summary") (codes "none")
-    ∷ number_option (codes "workers") (numbers_32 0 64) (codes "4")
+    ∷ []
+
+-- its numbers
+abbrev pub numeric_options : List Rule
+numeric_options = number_option (codes "workers") (numbers_32 0 64) (codes "4")
     ∷ number_option (codes "rounds") (numbers_32 0 16) (codes "2")
     ∷ number_option (codes "hood") (numbers_32 1 4096) (codes "512")
     ∷ number_option (codes "bound") (numbers_64 0 1000) (codes "0")
     ∷ number_option (codes "budget") (numbers_64 0 1099511627776) (codes "0")
-    ∷ text_option (codes "only") (codes "tsxbe")
+    ∷ []
+
+unfoldable pub simplify_command : App
+simplify_command = command (codes "simplify") (role_options ++ numeric_options
+    ++ text_option (codes "only") (codes "tsxbe")
     ∷ text_option (codes "proof-form") (codes "text")
     ∷ [])
 

@@ -3,7 +3,7 @@
 ghost use Rattle.std.specs.Prelude.{◌≡◌, IfOk, map, string_bytes};
 ghost use Rattle.clap.specs.Words.{app_of, found_of, rows_of};
 ghost use Rattle.cp_words.specs.Answers.{Answers, Gives, HasOptsLimits, HasSimplifyLimits, simplify_seen};
-ghost use Rattle.cp_words.specs.Commands.{HasSimplifyNumbers, simplify_command, text_at};
+ghost use Rattle.cp_words.specs.Commands.{HasSimplifyNumbers, numeric_options, role_options, simplify_command, text_at, with_options};
 ghost use Rattle.cp_words.specs.Names.{some_clash};
 ghost use Rattle.cp_words.specs.Words.{opts_at, simplify_found, simplify_options, simplify_roles};
 
@@ -44,24 +44,31 @@ pub fn read_simplify_words<'a>(
 fn simplify_command<'a>(alloc: Global) -> Result<Command<'a>, AllocError>
     ensures { IfOk result (λ c. app_of c ≡ simplify_command) }
 {
-    let workers = number_option(alloc, "workers", numbers_32(0, 64), "4");
-    let rounds = number_option(alloc, "rounds", numbers_32(0, 16), "2");
-    let hood = number_option(alloc, "hood", numbers_32(1, 4096), "512");
-    let bound = number_option(alloc, "bound", numbers_64(1000), "0");
-    let budget = number_option(alloc, "budget", numbers_64(1099511627776), "0");
-    Command::new(alloc, "simplify")
+    with_numbers(alloc, with_roles(alloc, Command::new(alloc, "simplify"))?)?
+        .arg(text_option(alloc, "only", "tsxbe"))?
+        .arg(text_option(alloc, "proof-form", "text"))
+}
+
+fn with_roles<'a>(alloc: Global, command: Command<'a>) -> Result<Command<'a>, AllocError>
+    ensures { IfOk result (λ c. app_of c ≡ with_options (app_of command.entry) role_options) }
+{
+    command
         .arg(text_option(alloc, "cnf", "std"))?
         .arg(text_option(alloc, "reduced", "std"))?
         .arg(text_option(alloc, "stack", "none"))?
         .arg(text_option(alloc, "proof", "none"))?
-        .arg(text_option(alloc, "summary", "none"))?
-        .arg(workers)?
-        .arg(rounds)?
-        .arg(hood)?
-        .arg(bound)?
-        .arg(budget)?
-        .arg(text_option(alloc, "only", "tsxbe"))?
-        .arg(text_option(alloc, "proof-form", "text"))
+        .arg(text_option(alloc, "summary", "none"))
+}
+
+fn with_numbers<'a>(alloc: Global, command: Command<'a>) -> Result<Command<'a>, AllocError>
+    ensures { IfOk result (λ c. app_of c ≡ with_options (app_of command.entry) numeric_options) }
+{
+    command
+        .arg(number_option(alloc, "workers", numbers_32(0, 64), "4"))?
+        .arg(number_option(alloc, "rounds", numbers_32(0, 16), "2"))?
+        .arg(number_option(alloc, "hood", numbers_32(1, 4096), "512"))?
+        .arg(number_option(alloc, "bound", numbers_64(1000), "0"))?
+        .arg(number_option(alloc, "budget", numbers_64(1099511627776), "0"))
 }
 
 fn simplify_options<'a>(matches: &ArgMatches<'a>) -> Result<SimplifyOptions<'a>, UsageKind>
