@@ -92,7 +92,8 @@ given_none name app checked words first found = go (is_command name words) (take
     go : (b : Bool) (o : Option (List Row)) → b ≡ true → o ≡ None → cond b (with_found checked o) (Err kind.Command) ≡ Err kind.Words
     go b o x y = rw (x, y) refl
 
-no_command : {V : Type 0} (checked : List Row → Result V UsageKind) (b : Bool) (o : Option (List Row)) → ((rows : List Row) → checked rows ≡ Err kind.Command → ⊥)
+-- where the first word is the command, that is not what is refused
+pub no_command : {V : Type 0} (checked : List Row → Result V UsageKind) (b : Bool) (o : Option (List Row)) → ((rows : List Row) → checked rows ≡ Err kind.Command → ⊥)
     → b ≡ true → cond b (with_found checked o) (Err kind.Command) ≡ Err kind.Command → ⊥
 no_command checked true None never first is = cc
 no_command checked true (Some rows) never first is = never rows is

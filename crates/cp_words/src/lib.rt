@@ -17,5 +17,5 @@ pub use extend::read_extend_words;
 pub use generate::read_generate_words;
 pub use simplify::read_simplify_words;
 pub use words::{
-    ExtendOptions, Form, GenerateOptions, SimplifyOptions, UsageKind, WordsRefusal,
+    ExtendOptions, Form, GenerateOptions, SimplifyOptions, UsageKind, WordsRefusal, is_command,
 };

@@ -63,7 +63,5 @@ fn clashes_with_any(role: NamedRole<'_>, others: &[NamedRole<'_>]) -> bool
 fn clash(a: NamedRole<'_>, b: NamedRole<'_>) -> bool
     ensures { result ≡ clash (named a.entry) (named b.entry) }
 {
-    a.name == b.name
-        && a.name != "none"
-        && !(a.name == "std" && a.is_input != b.is_input)
+    a.name == b.name && a.name != "none" && !(a.name == "std" && a.is_input != b.is_input)
 }

@@ -31,9 +31,7 @@ pub enum Form {
 #[derive(Clone, Copy, Debug, PartialEq, Eq)]
 pub enum WordsRefusal {
     /// The words are refused.
-    Usage {
-        kind: UsageKind,
-    },
+    Usage { kind: UsageKind },
     /// There is no memory to read them.
     NoMemory,
 }
@@ -72,8 +70,8 @@ pub struct GenerateOptions<'a> {
     pub summary: &'a str,
 }
 
-/// Whether the first word is the command.
-pub(crate) fn is_command(name: &str, words: &[String]) -> bool
+/// Whether there is a word, and the first is the command `name`, letter for letter.
+pub fn is_command(name: &str, words: &[String]) -> bool
     ensures { result ≡ is_command name.now (map string_bytes words.now) }
 {
     match words {
