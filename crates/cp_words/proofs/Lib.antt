@@ -1,0 +1,4 @@
+pub mod Accepted
+pub mod Chosen
+pub mod Commands
+pub mod Taken

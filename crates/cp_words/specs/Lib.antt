@@ -1,0 +1,6 @@
+pub mod Answers
+pub mod Commands
+pub mod Letters
+pub mod Names
+pub mod Roles
+pub mod Words
