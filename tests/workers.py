@@ -37,33 +37,35 @@ def signed(rng, variables):
 
 def hub(rng, variables):
     """The first variable is in half of the clauses, so that nearly every two neighbourhoods meet."""
-    for at in range(2 * variables):
-        others = rng.sample(range(2, variables + 1), rng.choice((1, 2, 2, 3)))
+    for at in range(rng.choice((2, 3, 5)) * variables):
+        others = rng.sample(range(2, variables + 1), rng.choice((1, 2, 2, 2, 3, 3)))
         yield signed(rng, [1] * (at % 2) + others)
 
 
 def chain(rng, variables):
     """Each clause is over variables next to each other on a ring."""
+    most = rng.choice((2, 3, 5))
     for first in range(variables):
-        for _ in range(rng.choice((1, 2, 3))):
-            near = [(first + step) % variables + 1 for step in range(rng.choice((2, 2, 3, 4)))]
+        for _ in range(rng.randint(1, most)):
+            near = [(first + step) % variables + 1 for step in range(rng.choice((2, 3, 3, 4)))]
             yield signed(rng, near)
 
 
 def grid(rng, variables):
     """Each clause is over a cell of a grid and cells beside, below or across from it."""
     width = max(w for w in range(1, variables + 1) if variables % w == 0 and w * w <= variables)
+    each = rng.choice((2, 3, 5))
     for cell in range(variables):
         near = [cell + step for step in (1, width, width + 1) if cell + step < variables]
-        for _ in range(2):
-            yield signed(rng, [v + 1 for v in [cell] + rng.sample(near, min(len(near), rng.choice((1, 2, 2, 3))))])
+        for _ in range(each):
+            yield signed(rng, [v + 1 for v in [cell] + rng.sample(near, min(len(near), rng.choice((1, 2, 2, 3, 3))))])
 
 
 def scattered(rng, variables):
     """Clauses over any variables, with some said twice, some longer than they need be, and some tautologies."""
     made = []
-    for _ in range(3 * variables):
-        clause = signed(rng, rng.sample(range(1, variables + 1), rng.choice((2, 3, 3, 3, 4))))
+    for _ in range(rng.choice((3, 4, 5)) * variables):
+        clause = signed(rng, rng.sample(range(1, variables + 1), rng.choice((2, 3, 3, 3, 3, 4))))
         if made and rng.random() < 0.1:
             clause = rng.choice(made) + signed(rng, [rng.randint(1, variables) for _ in range(rng.choice((0, 1, 2)))])
         made.append(clause)
