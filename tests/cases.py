@@ -272,7 +272,10 @@ EXTENSIONS = [
 
 
 def run(program, words, text, folder=None):
-    done = subprocess.run([program] + words, input=text, stdout=subprocess.PIPE, stderr=subprocess.PIPE, timeout=120, cwd=folder)
+    try:
+        done = subprocess.run([program] + words, input=text, stdout=subprocess.PIPE, stderr=subprocess.PIPE, timeout=120, cwd=folder)
+    except subprocess.TimeoutExpired:
+        return None, b"", b"(no end within 120 seconds)"
     return done.returncode, done.stdout, done.stderr
 
 

@@ -19,7 +19,6 @@ A run that fails prints its command, its formula and what was expected, and its 
 import os
 import random
 import shutil
-import subprocess
 import sys
 import tempfile
 
@@ -158,7 +157,7 @@ def fault_of_extend(rng, program, folder, formula, reduced, model):
         status, out, err = cases.run(program, ["extend", "--stack", "stack"], text.encode(), folder)
         wrong = err.decode() or check.model_fault(formula, check.model_of(out))
         if status != 10 or wrong:
-            return "that extend completes the model %r to one of the input; it ends with %d: %s" % (text, status, wrong)
+            return "that extend completes the model %r to one of the input; it ends with %s: %s" % (text, status, wrong)
     return ""
 
 
@@ -172,12 +171,12 @@ class Run:
 
     def __init__(self, program, words, text):
         self.folder = tempfile.mkdtemp(prefix="copro-workers-")
-        self.command = [program, "simplify"] + words
-        self.command += ["--cnf", "in", "--reduced", "reduced", "--stack", "stack", "--proof", "proof", "--summary", "summary"]
+        words = ["simplify"] + words + ["--cnf", "in", "--reduced", "reduced", "--stack", "stack", "--proof", "proof", "--summary", "summary"]
+        self.command = [program] + words
         with open(os.path.join(self.folder, "in"), "wb") as file:
             file.write(text)
-        done = subprocess.run(self.command, cwd=self.folder, stdout=subprocess.PIPE, stderr=subprocess.PIPE, timeout=300)
-        self.status, self.said = done.returncode, done.stdout + done.stderr
+        self.status, *said = cases.run(program, words, b"", self.folder)
+        self.said = b"".join(said)
         self.text = {name: cases.held_by(os.path.join(self.folder, name)) for name in self.NAMES}
 
 
@@ -217,7 +216,7 @@ def fault_of_rest(variables, reduced, letters, bound):
 def fault_of(rng, run, formula, letters, bound, model):
     """What was expected of the run and isn't so, or nothing."""
     if run.said or run.status not in (0, 10, 20):
-        return "no word on the streams and the status 0, 10 or 20; it ends with %d and says %r" % (run.status, run.said)
+        return "no word on the streams and the status 0, 10 or 20; it ends with %s and says %r" % (run.status, run.said)
     variables, reduced = cases.formula_of(run.text["reduced"])
     pairs = [literals for _, literals in check.items_of([w for line in check.lines_of(run.text["stack"])[1:] for w in line])]
     proof = check.proof_fault(formula, check.proof_of(run.text["proof"]), reduced)
