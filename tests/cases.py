@@ -225,7 +225,8 @@ WITH_FILES = [
      b"s SATISFIABLE\nv 1 2 3 4 -5 -6 -7 -8\nv 0\n", b"", {}),
     (["generate", "--seed", "7", "--vars", "3", "--clauses", "2", "--summary", "sm"], {}, b"", 0, b"", b"",
      {"sm": summary(3, 2, 5, 0, 0, 1, 0, 0, 1, 0, 1, "none", 10)}),
-    (["generate", "--seed", "7", "--vars", "3", "--clauses", "2"], {}, b"", 0, summary(3, 2, 5, 0, 0, 1, 0, 0, 1, 0, 1, "none", 10), b"", {}),
+    (["generate", "--seed", "7", "--vars", "3", "--clauses", "2"], {}, b"", 0,
+     summary(3, 2, 5, 0, 0, 1, 0, 0, 1, 0, 1, "none", 10), b"", {}),
     (["generate", "--clauses", "0"], {}, b"", 0, summary(1000, 0, 0, 0, 0, 0, 0, 0, 0, 0, 0, "none", 10), b"", {}),
     (["generate"], {}, b"", 0, GENERATED, b"", {}),
     # What can't be opened, read or written.

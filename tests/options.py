@@ -15,7 +15,9 @@ import subprocess
 import sys
 import tempfile
 
-TOP = os.path.dirname(os.path.dirname(os.path.abspath(__file__)))
+import cases
+
+TOP = cases.TOP
 DOCS = os.path.join(TOP, "docs")
 # Words with which a command can't open its first file.
 NOTHING_THERE = {"simplify": ("--cnf", "missing"), "extend": ("--stack", "missing"), "generate": ("--summary", "missing/file")}
@@ -82,8 +84,8 @@ def document_faults(usage, manual):
 def is_taken(program, folder, command, option, value):
     name, missing = NOTHING_THERE[command]
     words = [command, option + "=" + value] + ([name + "=" + missing] if option != name else [])
-    done = subprocess.run([program] + words, cwd=folder, stdin=subprocess.DEVNULL, stdout=subprocess.PIPE, stderr=subprocess.PIPE, timeout=60)
-    return " ".join(words), done.returncode != 64
+    status, _, _ = cases.run(program, words, b"", folder)
+    return " ".join(words), status != 64
 
 
 def trials(usage):
@@ -134,7 +136,7 @@ def example_faults(program):
         for name, path in (("copro", program), ("examples", os.path.join(TOP, "examples")), ("tests", os.path.join(TOP, "tests"))):
             os.symlink(path, os.path.join(folder, name))
         for command, wanted in worked_examples():
-            done = subprocess.run(command, shell=True, cwd=folder, stdout=subprocess.PIPE, stderr=subprocess.STDOUT, text=True, timeout=60)
+            done = subprocess.run(["sh", "-c", "exec 2>&1; " + command], cwd=folder, stdout=subprocess.PIPE, text=True, timeout=60, check=False)
             if done.stdout.splitlines() != wanted:
                 yield "%s\n  wanted %r\n  got    %r" % (command, wanted, done.stdout.splitlines())
 

@@ -14,8 +14,11 @@ every interleaving:
   completed by the pairs, satisfies the input;
 - of a large one, made to have a model: models of the output, completed by the program's own `extend`, satisfy the input.
 
+The formulas in examples/ are simplified with the default options besides.
+
 A run that fails prints its command, its formula and what was expected, and its folder is kept.
 """
+import glob
 import os
 import random
 import shutil
@@ -87,7 +90,8 @@ def options(rng):
     letters = ALL_LETTERS if rng.random() < 0.75 else "".join(rng.sample(ALL_LETTERS, rng.randint(1, 4)))
     bound = rng.choice((0, 0, 0, 1, 4))
     words = ["--rounds", str(rng.choice((1, 2, 3, 5, 16))), "--hood", str(rng.choice((1, 4, 12, 512, 512, 512)))]
-    return letters, bound, words + ["--only", letters, "--bound", str(bound)]
+    words += ["--only", letters, "--bound", str(bound), "--proof-form", rng.choice(("text", "binary"))]
+    return letters, bound, words
 
 
 # All assignments to the variables at once: a variable's column has one bit for each assignment.
@@ -125,6 +129,9 @@ def completed(columns, pairs):
 
 
 def fault_of_models(variables, formula, reduced, pairs):
+    """Of a small formula."""
+    if variables > SMALL:
+        return ""
     columns = columns_of(variables)
     models = where_all(columns, reduced)
     if (models == 0) != (where_all(columns, formula) == 0):
@@ -171,7 +178,8 @@ class Run:
 
     def __init__(self, program, words, text):
         self.folder = tempfile.mkdtemp(prefix="copro-workers-")
-        words = ["simplify"] + words + ["--cnf", "in", "--reduced", "reduced", "--stack", "stack", "--proof", "proof", "--summary", "summary"]
+        roles = ("cnf=in", "reduced=reduced", "stack=stack", "proof=proof", "summary=summary")
+        words = ["simplify"] + words + ["--" + role for role in roles]
         self.command = [program] + words
         with open(os.path.join(self.folder, "in"), "wb") as file:
             file.write(text)
@@ -180,12 +188,19 @@ class Run:
         self.text = {name: cases.held_by(os.path.join(self.folder, name)) for name in self.NAMES}
 
 
+def pairs_of(text):
+    """The pairs of a stack, each as its literals in their order."""
+    return [literals for _, literals in check.items_of([word for line in check.lines_of(text)[1:] for word in line])]
+
+
 def summary_of(text):
     return dict(line.split(" ") for line in text.decode().splitlines())
 
 
 def fault_of_result(run, variables, formula, reduced, pairs):
     """What is wrong with the status, the headers and the summary."""
+    if variables != max(abs(literal) for clause in formula for literal in clause):
+        return "the formula's variables, not %d, in the reduced formula's header" % variables
     status = 20 if frozenset() in reduced else 0 if reduced else 10
     if run.status != status:
         return "the status %d, not %d" % (status, run.status)
@@ -218,8 +233,9 @@ def fault_of(rng, run, formula, letters, bound, model):
     if run.said or run.status not in (0, 10, 20):
         return "no word on the streams and the status 0, 10 or 20; it ends with %s and says %r" % (run.status, run.said)
     variables, reduced = cases.formula_of(run.text["reduced"])
-    pairs = [literals for _, literals in check.items_of([w for line in check.lines_of(run.text["stack"])[1:] for w in line])]
-    proof = check.proof_fault(formula, check.proof_of(run.text["proof"]), reduced)
+    pairs = pairs_of(run.text["stack"])
+    read = check.binary_proof_of if "binary" in run.command else check.proof_of
+    proof = check.proof_fault(formula, read(run.text["proof"]), reduced)
     fault = proof and "a proof of the reduced formula: %s" % proof
     fault = fault or fault_of_result(run, variables, formula, reduced, pairs)
     fault = fault or fault_of_rest(variables, reduced, letters, bound)
@@ -228,14 +244,11 @@ def fault_of(rng, run, formula, letters, bound, model):
     return fault_of_extend(rng, run.command[0], run.folder, formula, reduced, model)
 
 
-def tried(rng, program, kind, variables, workers):
-    """Whether a run on a new formula of the kind is as it should be."""
-    clauses = KINDS[kind](rng, variables)
-    model = set(signed(rng, range(1, variables + 1))) if variables > SMALL else None
-    clauses = list(clauses if model is None else planted(rng, clauses, model))
+def tried(rng, program, kind, clauses, model, words, letters=ALL_LETTERS, bound=0):
+    """Whether a run on the clauses is as it should be. The model, if one is known, is one of them."""
+    variables = max(abs(literal) for clause in clauses for literal in clause)
     text = "p cnf %d %d\n" % (variables, len(clauses)) + "".join(" ".join(map(str, c + [0])) + "\n" for c in clauses)
-    letters, bound, words = options(rng)
-    run = Run(program, ["--workers", str(workers)] + words, text.encode())
+    run = Run(program, words, text.encode())
     try:
         fault = fault_of(rng, run, [frozenset(clause) for clause in clauses], letters, bound, model)
     except (ValueError, AttributeError, IndexError) as error:
@@ -243,16 +256,40 @@ def tried(rng, program, kind, variables, workers):
     if not fault:
         shutil.rmtree(run.folder)
         return True
-    print("FAILED %s\n  in     %s (kept)\n  formula, a %s: %r\n  wanted %s" % (" ".join(run.command), run.folder, kind, text[:1500], fault))
+    print("FAILED %s\n  in     %s (kept)\n  formula, a %s: %r" % (" ".join(run.command), run.folder, kind, text[:1500]))
+    print("  wanted %s" % fault)
     return False
+
+
+def made(rng, kind, variables):
+    """A formula of the kind; a large one is made to have the model that stands beside it."""
+    clauses = list(KINDS[kind](rng, variables))
+    if variables <= SMALL:
+        return clauses, None
+    model = set(signed(rng, range(1, variables + 1)))
+    return list(planted(rng, clauses, model)), model
+
+
+def tried_on_made(rng, program, kind, variables, workers):
+    clauses, model = made(rng, kind, variables)
+    letters, bound, words = options(rng)
+    return tried(rng, program, kind, clauses, model, ["--workers", str(workers)] + words, letters, bound)
+
+
+def tried_on_example(rng, program, path):
+    """With the default options."""
+    with open(path, "rb") as file:
+        clauses = [sorted(clause, key=abs) for clause in check.clauses_of(file.read())]
+    return tried(rng, program, os.path.basename(path), clauses, None, [])
 
 
 def main():
     program = os.path.abspath(sys.argv[1])
     count = int(sys.argv[2]) if len(sys.argv) > 2 else 24
     rng = random.Random(int(sys.argv[3]) if len(sys.argv) > 3 else 11)
-    results = [
-        tried(rng, program, kind, variables, workers)
+    results = [tried_on_example(rng, program, path) for path in sorted(glob.glob(os.path.join(cases.TOP, "examples", "*.cnf")))]
+    results += [
+        tried_on_made(rng, program, kind, variables, workers)
         for kind in KINDS for variables in (SMALL, LARGE) for workers in WORKERS for _ in range(count)
     ]
     print("workers: %d passed, %d failed" % (sum(results), len(results) - sum(results)))
