@@ -18,10 +18,18 @@ import tempfile
 TOP = os.path.dirname(os.path.dirname(os.path.abspath(__file__)))
 ALL = ["simplify", "--workers", "0"]
 TS, TSX, SX, E, B = (ALL + ["--only", letters] for letters in ("ts", "tsx", "sx", "e", "b"))
-LISTS = [TS, TSX, SX, E, B, ALL]
+# Words with the letters and the bound that they choose, for the plain second program.
+LISTS = [(ALL + ["--only", letters], letters, 0) for letters in ("ts", "tsx", "sx", "e", "b", "bx", "eb")]
+LISTS += [(ALL, "tsxbe", 0), (ALL + ["--bound", "2"], "tsxbe", 2), (E + ["--bound=1"], "e", 1)]
 EXTEND = ["extend", "--stack", "a"]
 STACK = b"p stack 1 3 3\n1 2 0\n-1 3 0\n2 3 0\n"
+ONE_ELIMINATED = b"p cnf 3 2\n1 2 0\n-1 3 0\n"
+UNITS = b"p cnf 3 3\n1 0\n-1 2 0\n-2 3 0\n"
+LATCH = b"c latch\np cnf 8 7\n1 0\n-1 2 0\n-2 -3 4 0\n3 -4 0\n2 5 0\n-5 6 0\n5 -6 0\n"
 BAD_OPTIONS = b"copro: bad options\n"
+BAD_LETTERS = b"copro: bad letters in --only\n"
+BAD_VALUE = b"copro: bad option value\n"
+ONE_NAME = b"copro: one name for two roles\n"
 
 # words, standard input, status, standard output
 ANSWERS = [
@@ -117,36 +125,123 @@ REFUSALS = [
     (TS, b"p cnf 1 1\n2000001 0\n", 69, b"copro: cnf has too many variables at byte 10\n"),
     (TS, b"p cnf 18446744073709551617 1\n1 0\n", 69, b"copro: cnf has too many variables at byte 6\n"),
     (ALL, b"p cnf 1 1\n1 -99999999999999999999999 0\n", 69, b"copro: cnf has too many variables at byte 12\n"),
-    (EXTEND + ["more"], b"", 64, BAD_OPTIONS),
-    (["extend", "--stack=a"], b"", 64, BAD_OPTIONS),
-    (["extend", "--stack"], b"", 64, BAD_OPTIONS),
-    (["extend", "--stack", "b"], b"", 64, BAD_OPTIONS),
-    (["simplify"], b"", 64, BAD_OPTIONS),
-    (["simplify", "--workers"], b"", 64, BAD_OPTIONS),
-    (["simplify", "--workers", "1"], b"", 64, BAD_OPTIONS),
-    (["simplify", "--workers", "00"], b"", 64, BAD_OPTIONS),
-    (["simplify", "--workers=0"], b"", 64, BAD_OPTIONS),
-    (["simplify", "--only", "ts"], b"", 64, BAD_OPTIONS),
-    (["simplify", "--only", "ts", "--workers", "0"], b"", 64, BAD_OPTIONS),
-    (ALL + ["more"], b"", 64, BAD_OPTIONS),
-    (ALL + ["--bound", "0"], b"", 64, BAD_OPTIONS),
-    (ALL + ["--only"], b"", 64, BAD_OPTIONS),
-    (ALL + ["--only", ""], b"", 64, BAD_OPTIONS),
-    (ALL + ["--only", "t"], b"", 64, BAD_OPTIONS),
-    (ALL + ["--only", "x"], b"", 64, BAD_OPTIONS),
-    (ALL + ["--only", "st"], b"", 64, BAD_OPTIONS),
-    (ALL + ["--only", "xs"], b"", 64, BAD_OPTIONS),
-    (ALL + ["--only", "be"], b"", 64, BAD_OPTIONS),
-    (ALL + ["--only", "tsxb"], b"", 64, BAD_OPTIONS),
-    (ALL + ["--only", "tsxbe"], b"", 64, BAD_OPTIONS),
-    (TS + ["more"], b"", 64, BAD_OPTIONS),
-    (E + ["--budget", "1"], b"", 64, BAD_OPTIONS),
-    (SX + ["--budget", "4"], b"", 64, BAD_OPTIONS),
-    (SX + ["--budget"], b"", 64, BAD_OPTIONS),
-    ([], b"", 64, b"copro: no such command\n"),
-    (["extend"], b"", 64, BAD_OPTIONS),
-    (["generate"], b"", 64, b"copro: no such command\n"),
-    (["Simplify"], b"", 64, b"copro: no such command\n"),
+]
+
+# Words that are refused: the line, and the lists.
+WRONG_WORDS = {
+    b"copro: no such command\n": [[], ["frob"], ["Simplify"], ["--help"], ["help"]],
+    BAD_OPTIONS: [
+        # A word that is no option's value, help, a short or unknown name, a name cut short.
+        ["simplify", "more"], ALL + ["more"], EXTEND + ["more"], ["generate", "7"], ["simplify", "--help"], ["simplify", "-h"],
+        ["extend", "--help"], ["simplify", "-w", "0"], ["simplify", "--dense", "yes"], ["simplify", "--work", "0"],
+        ["simplify", "--Workers", "0"], ["simplify", "--seed", "1"], ["generate", "--workers", "0"], ["extend", "--cnf", "a"],
+        # No value, one option twice, a required one missing.
+        ["simplify", "--workers"], ["simplify", "--only"], ["simplify", "--cnf", "--stack", "a"], SX + ["--budget"],
+        ["extend", "--stack"], ["extend"], ["extend", "--model", "a"], ALL + ["--workers", "0"], TS + ["--only", "ts"],
+        # Past a limit, and no number.
+        ["simplify", "--workers", "65"], ["simplify", "--rounds", "17"], ["simplify", "--hood", "0"], ["simplify", "--hood", "4097"],
+        ["simplify", "--bound", "1001"], ["simplify", "--budget", "1099511627777"], ["simplify", "--workers", "-1"],
+        ["simplify", "--bound", "x"], ["simplify", "--bound="], ["generate", "--seed", "2147483648"], ["generate", "--vars", "0"],
+        ["generate", "--vars", "2000001"], ["generate", "--clauses", "8000001"],
+        # These are told before letters, forms and names.
+        ["simplify", "--only", "q", "--workers", "65"],
+    ],
+    BAD_LETTERS: [
+        ["simplify", "--only", "tq"], ["simplify", "--only", ""], ["simplify", "--only="], ["simplify", "--only", "T"],
+        ["simplify", "--only", "t,s"], ["simplify", "--proof-form", "q", "--only", "q"],
+    ],
+    BAD_VALUE: [
+        ["simplify", "--proof-form", "drat"], ["simplify", "--proof-form="], ["simplify", "--proof-form", "Text"],
+        ["simplify", "--proof-form", "q", "--cnf", "a", "--reduced", "a"],
+    ],
+    ONE_NAME: [
+        ["simplify", "--cnf", "a", "--reduced", "a"], ["simplify", "--stack", "a", "--proof", "a"], ["simplify", "--proof", "std"],
+        ["simplify", "--stack", "std"], ["simplify", "--summary", "std"], ["extend", "--stack", "std"],
+        ["extend", "--stack", "a", "--model", "a"], ["extend", "--stack", "a", "--full", "a"],
+    ],
+}
+REFUSALS += [(words, b"p cnf 0 0\n", 64, line) for line, lists in WRONG_WORDS.items() for words in lists]
+
+# Words that are taken. The answer is the same in every interleaving of the workers.
+TAKEN = [[]] + [option.split() for option in (
+    "--workers 0", "--workers=0", "--workers 00", "--workers 1", "--workers 64", "--rounds 0", "--rounds 16", "--hood 1", "--hood 4096",
+    "--bound 1000", "--budget 0", "--budget 1099511627776", "--only t", "--only st", "--only ttxs", "--only tsxbe",
+    "--only ts --workers 0", "--proof-form text", "--proof-form=binary", "--cnf std", "--reduced=std", "--proof none", "--stack none",
+    "--workers 2 --rounds 3 --hood 7 --bound 1 --budget 9 --only ebxst --proof-form binary --cnf std --reduced std",
+)]
+ANSWERS += [(["simplify"] + words, b"p cnf 2 2\n1 -1 2 0\n2 -2 0\n", 10, b"p cnf 2 0\n") for words in TAKEN]
+ANSWERS += [
+    (["simplify", "--workers", workers, "--rounds", rounds, "--only", letters], text, 0, left)
+    for workers in ("1", "2", "4", "8") for rounds in ("0", "1", "16")
+    for letters, text, left in (
+        ("t", b"p cnf 2 2\n1 0\n2 0\n", b"p cnf 2 2\n1 0\n2 0\n"),
+        ("s", b"p cnf 3 3\n3 1 0\n1 0\n-3 -1 0\n", b"p cnf 3 2\n1 0\n-1 -3 0\n"),
+        ("sx", UNITS, b"p cnf 3 3\n1 0\n2 0\n3 0\n"),
+    )
+]
+
+
+def summary(*values):
+    """The text of a summary with these values."""
+    names = "variables clauses literals reduced-clauses reduced-literals tautologies subsumed strengthened blocked eliminated"
+    names = names.split() + ["pairs", "stopped", "status"]
+    return "".join("%s %s\n" % line for line in zip(names, values)).encode()
+
+
+# That of `generate` without options: a formula of seed 1 with 1000 variables and 3000 clauses.
+GENERATED = summary(1000, 3000, 8995, 2792, 8885, 6, 0, 1, 104, 113, 708, "none", 0)
+
+# words, the files that are there, standard input, status, standard output, the line on standard error, what files hold then
+WITH_FILES = [
+    (ALL + ["--stack", "st", "--proof", "pf"], {}, b"p cnf 1 2\n1 0\n-1 0\n", 20, b"p cnf 1 1\n0\n", b"",
+     {"st": b"p stack 1 1 0\n", "pf": b"0\n"}),
+    (ALL + ["--proof", "pf", "--proof-form", "binary"], {}, b"p cnf 1 2\n1 0\n-1 0\n", 20, b"p cnf 1 1\n0\n", b"",
+     {"pf": bytes.fromhex("6100")}),
+    (ALL + ["--proof", "pf", "--stack", "st"], {}, b"p cnf 1 2\n1 0\n0\n", 20, b"p cnf 1 1\n0\n", b"",
+     {"pf": b"", "st": b"p stack 1 1 0\n"}),
+    (E + ["--stack", "st", "--proof", "pf", "--summary", "sm"], {}, ONE_ELIMINATED, 10, b"p cnf 3 0\n", b"",
+     {"st": STACK, "pf": b"2 3 0\nd 1 2 0\nd -1 3 0\nd 2 3 0\n", "sm": summary(3, 2, 4, 0, 0, 0, 0, 0, 0, 2, 3, "none", 10)}),
+    (E + ["--proof", "pf", "--proof-form=binary"], {}, ONE_ELIMINATED, 10, b"p cnf 3 0\n", b"",
+     {"pf": bytes.fromhex("61040600640204006403060064040600")}),
+    # Codes of one to four bytes.
+    (TS + ["--proof", "pf", "--proof-form", "binary"], {}, b"p cnf 2000000 2\n" + 2 * b"1 64 -8192 2000000 0\n", 0,
+     b"p cnf 2000000 1\n1 64 -8192 2000000 0\n", b"", {"pf": bytes.fromhex("6402" "8001" "818001" "8092f401" "00")}),
+    (B + ["--stack", "st", "--proof", "pf"], {}, b"p cnf 3 4\n1 2 0\n-1 -2 0\n-1 3 0\n1 -3 0\n", 10, b"p cnf 3 0\n", b"",
+     {"st": b"p stack 1 3 4\n2 1 0\n-2 -1 0\n3 -1 0\n-3 1 0\n", "pf": b"d 1 2 0\nd -1 -2 0\nd -1 3 0\nd 1 -3 0\n"}),
+    (SX + ["--budget", "1", "--summary", "sm", "--proof", "pf"], {}, UNITS, 0, b"p cnf 3 3\n1 0\n-2 3 0\n2 0\n", b"",
+     {"sm": summary(3, 3, 5, 3, 4, 0, 0, 1, 0, 0, 0, "spent", 0), "pf": b"2 0\nd -1 2 0\n"}),
+    (SX + ["--budget", "3", "--summary", "sm"], {}, UNITS, 0, b"p cnf 3 3\n1 0\n2 0\n3 0\n", b"",
+     {"sm": summary(3, 3, 5, 3, 3, 0, 0, 2, 0, 0, 0, "none", 0)}),
+    (ALL + ["--stack", "st", "--proof", "pf"], {}, LATCH, 10, b"p cnf 8 0\n", b"",
+     {"st": b"p stack 1 8 6\n1 0\n2 0\n3 -4 0\n-3 4 0\n-5 6 0\n5 -6 0\n",
+      "pf": b"2 0\nd -1 2 0\nd 1 0\nd 2 5 0\n-3 4 0\nd -2 -3 4 0\nd 2 0\nd 3 -4 0\nd -3 4 0\nd -5 6 0\nd 5 -6 0\n"}),
+    # A file for every role; what an output's file held before is gone.
+    (E + ["--cnf", "in", "--reduced", "out", "--stack", "st", "--proof", "pf", "--summary", "sm"], {"in": ONE_ELIMINATED, "st": b"old\n"},
+     b"", 10, b"", b"", {"in": ONE_ELIMINATED, "out": b"p cnf 3 0\n", "st": STACK, "pf": b"2 3 0\nd 1 2 0\nd -1 3 0\nd 2 3 0\n",
+                        "sm": summary(3, 2, 4, 0, 0, 0, 0, 0, 0, 2, 3, "none", 10)}),
+    (["extend", "--full", "full", "--model", "model", "--stack", "st"], {"st": STACK, "model": b"v 3\nv 0\n"}, b"", 10, b"", b"",
+     {"full": b"s SATISFIABLE\nv 1 -2 3\nv 0\n"}),
+    (["extend", "--stack=st"], {"st": b"p stack 1 8 6\n1 0\n2 0\n3 -4 0\n-3 4 0\n-5 6 0\n5 -6 0\n"}, b"s SATISFIABLE\nv 4 0\n", 10,
+     b"s SATISFIABLE\nv 1 2 3 4 -5 -6 -7 -8\nv 0\n", b"", {}),
+    (["generate", "--seed", "7", "--vars", "3", "--clauses", "2", "--summary", "sm"], {}, b"", 0, b"", b"",
+     {"sm": summary(3, 2, 5, 0, 0, 1, 0, 0, 1, 0, 1, "none", 10)}),
+    (["generate", "--seed", "7", "--vars", "3", "--clauses", "2"], {}, b"", 0,
+     summary(3, 2, 5, 0, 0, 1, 0, 0, 1, 0, 1, "none", 10), b"", {}),
+    (["generate", "--clauses", "0"], {}, b"", 0, summary(1000, 0, 0, 0, 0, 0, 0, 0, 0, 0, 0, "none", 10), b"", {}),
+    (["generate"], {}, b"", 0, GENERATED, b"", {}),
+    # What can't be opened, read or written.
+    (E + ["--cnf", "missing", "--proof", "pf"], {}, b"", 66, b"", b"copro: cannot open cnf\n", {}),
+    (E + ["--cnf", "."], {}, b"", 66, b"", b"copro: cannot read cnf\n", {}),
+    (E + ["--cnf="], {}, b"", 66, b"", b"copro: cannot open cnf\n", {}),
+    (E + ["--proof", "no/pf"], {}, ONE_ELIMINATED, 66, b"", b"copro: cannot open proof\n", {}),
+    (E + ["--summary", "."], {}, ONE_ELIMINATED, 66, b"", b"copro: cannot open summary\n", {}),
+    (E + ["--stack", "/dev/full", "--proof", "pf", "--summary", "sm", "--reduced", "out"], {}, ONE_ELIMINATED, 74, b"",
+     b"copro: cannot write stack\n", {"pf": b"2 3 0\nd 1 2 0\nd -1 3 0\nd 2 3 0\n", "sm": b"", "out": b""}),
+    (["extend", "--stack", "st", "--full", "/dev/full"], {"st": STACK}, b"v 0\n", 74, b"", b"copro: cannot write full\n", {}),
+    (["generate", "--summary", "/dev/full", "--clauses", "2"], {}, b"", 74, b"", b"copro: cannot write summary\n", {}),
+    (["simplify", "--cnf", "none"], {}, b"", 65, b"", b"copro: bad input at byte 0: NoHeader\n", {}),
+    (["extend", "--stack", "none"], {}, b"v 0\n", 65, b"", b"copro: bad stack at byte 0: BadHeader\n", {}),
+    (["extend", "--stack", "a", "--model", "missing"], {"a": STACK}, b"", 66, b"", b"copro: cannot open model\n", {}),
 ]
 
 
@@ -178,17 +273,29 @@ EXTENSIONS = [
 
 
 def run(program, words, text, folder=None):
-    done = subprocess.run([program] + words, input=text, stdout=subprocess.PIPE, stderr=subprocess.PIPE, timeout=120, cwd=folder)
+    try:
+        done = subprocess.run([program] + words, input=text, stdout=subprocess.PIPE, stderr=subprocess.PIPE, timeout=120, cwd=folder)
+    except subprocess.TimeoutExpired:
+        return None, b"", b"(no end within 120 seconds)"
     return done.returncode, done.stdout, done.stderr
 
 
-def extension(program, stack, model):
-    """What `extend` answers of a stack and a model."""
+def run_with_files(program, words, files, text, names=()):
+    """What a run answers in a folder of its own that has these files, and what the files of the given names hold then."""
     with tempfile.TemporaryDirectory() as folder:
-        if stack is not None:
-            with open(os.path.join(folder, "a"), "wb") as file:
-                file.write(stack)
-        return run(program, EXTEND, model, folder)
+        for name, held in files.items():
+            with open(os.path.join(folder, name), "wb") as file:
+                file.write(held)
+        answer = run(program, words, text, folder)
+        return answer + ({name: held_by(os.path.join(folder, name)) for name in names},)
+
+
+def held_by(path):
+    try:
+        with open(path, "rb") as file:
+            return file.read()
+    except OSError as fault:
+        return str(fault)
 
 
 def formula_of(text):
@@ -275,33 +382,41 @@ def blocked_clauses(x, near):
                 yield [number], []
 
 
-def eliminations(x, near):
+def eliminations(x, near, bound):
     if not near or has_tautology(near):
         return
     positive = [clause for _, clause in near if x in clause]
     negative = [clause for _, clause in near if -x in clause]
     new = [resolvent(clause, other, x) for clause in positive for other in negative]
     new = [clause for clause in new if not is_tautology(clause)]
-    if len(new) <= len(near):
+    if len(new) <= len(near) + bound:
         yield [number for number, _ in near], new
 
 
-TECHNIQUES = {"t": tautologies, "s": subsumptions, "x": strengthenings, "b": blocked_clauses, "e": eliminations}
+TECHNIQUES = {"t": tautologies, "s": subsumptions, "x": strengthenings, "b": blocked_clauses}
 
 
-def first_entry(formula, letters, x):
+def entries(letters, bound, x, near):
+    """The legal entries of the chosen techniques at x, in their order."""
+    for letter, technique in TECHNIQUES.items():
+        if letter in letters:
+            yield from technique(x, near)
+    if "e" in letters:
+        yield from eliminations(x, near, bound)
+
+
+def first_entry(formula, letters, bound, x):
     near = [(number, clause) for number, clause in sorted(formula.items()) if x in clause or -x in clause]
-    entries = (entry for letter, technique in TECHNIQUES.items() if letter in letters for entry in technique(x, near))
-    return None if frozenset() in formula.values() else next(entries, None)
+    return None if frozenset() in formula.values() else next(entries(letters, bound, x, near), None)
 
 
-def swept(variables, clauses, letters):
+def swept(variables, clauses, letters, bound):
     """The clauses that the sweep leaves: each time the first entry at the first variable that has one, going upwards and
     around from that of the last entry."""
     formula = dict(enumerate(clauses, 1))
     unused, x, without_entry = len(formula) + 1, 1, 0
     while without_entry < variables:
-        entry = first_entry(formula, letters, x)
+        entry = first_entry(formula, letters, bound, x)
         if entry is None:
             x, without_entry = x % variables + 1, without_entry + 1
             continue
@@ -313,10 +428,10 @@ def swept(variables, clauses, letters):
     return [clause for _, clause in sorted(formula.items())]
 
 
-def plain_answer(words, text):
+def plain_answer(letters, bound, text):
     """Status, standard output and standard error of the plain program."""
     variables, clauses = formula_of(text)
-    left = swept(variables, clauses, "tsxbe" if words == ALL else words[-1])
+    left = swept(variables, clauses, letters, bound)
     if frozenset() in left:
         return 20, text_of(variables, [frozenset()]), b""
     return (0 if left else 10), text_of(variables, left), b""
@@ -361,7 +476,7 @@ def main():
     texts += [open(path, "rb").read() for path in sorted(glob.glob(os.path.join(TOP, "examples", "*.cnf")))]
     cases = [(words, text, (status, out, b"")) for words, text, status, out in ANSWERS]
     cases += [(words, text, (status, b"", err)) for words, text, status, err in REFUSALS]
-    cases += [(words, text, plain_answer(words, text)) for text in texts for words in LISTS]
+    cases += [(words, text, plain_answer(letters, bound, text)) for text in texts for words, letters, bound in LISTS]
     failed = 0
     for words, text, wanted in cases:
         got = run(program, words, text)
@@ -369,12 +484,14 @@ def main():
         if wrong:
             failed += 1
             print("FAILED %s on %r\n  %s\n  got    %r" % (" ".join(words), text[:300], wrong, got))
-    for stack, model, status, out, err in EXTENSIONS:
-        got = extension(program, stack, model)
-        if got != (status, out, err):
+    folders = [(EXTEND, {} if stack is None else {"a": stack}, model, *rest, {}) for stack, model, *rest in EXTENSIONS]
+    folders += WITH_FILES
+    for words, files, text, *wanted in folders:
+        got = run_with_files(program, words, files, text, wanted[3])
+        if got != tuple(wanted):
             failed += 1
-            print("FAILED extend of %r by %r\n  wanted %r\n  got    %r" % (model, stack, (status, out, err), got))
-    total = len(cases) + len(EXTENSIONS)
+            print("FAILED %s on %r with the files %r\n  wanted %r\n  got    %r" % (" ".join(words), text, files, tuple(wanted), got))
+    total = len(cases) + len(folders)
     print("cases: %d passed, %d failed" % (total - failed, failed))
     return 1 if failed else 0
 

@@ -2,13 +2,14 @@
 """Checks a proof or a model against a formula. It goes by the definitions and knows nothing of the program.
 
     check.py proof CNF PROOF [REDUCED]
+    check.py binary CNF PROOF [REDUCED]
     check.py model CNF MODEL
     check.py rows
 
 A proof is a text of lemmas and deletions. Each lemma has to be RUP, or RAT on its first literal, where it stands: with
 respect to the clauses of the formula and the lemmas before it, less what was deleted. A deletion takes away one of the clauses
 with its literals, and there has to be one. Nothing may follow the empty clause. With REDUCED the clauses that are left have to
-be those of that formula, each as often, or both have to have the empty clause.
+be those of that formula, each as often, or both have to have the empty clause. With `binary` the proof is in DRAT's binary form.
 
 A model is a text of the lines of a solver. Each clause has to have a literal that it makes true. A variable that it doesn't
 name is false.
@@ -56,6 +57,19 @@ PROOFS = [
     (b"p cnf 1 1\n1 0\n", b"1 d 0\n", None, "'d' is no number"),
     (b"p cnf 1 1\n1 0\n", b"x 1 0\n", None, "'x' is no number"),
     (b"1 0\n", b"", None, "the formula has no header"),
+]
+
+# a binary proof, and its items or what is wrong with it
+BINARY = [
+    (b"", []),
+    (b"\x61\x00", [(False, [])]),
+    (bytes.fromhex("61040600640204006403060064040600"), [(False, [2, 3]), (True, [1, 2]), (True, [-1, 3]), (True, [2, 3])]),
+    (bytes.fromhex("64 02 8001 818001 8092f401 00"), [(True, [1, 64, -8192, 2000000])]),
+    (b"\x61\x02", "the end of the proof is within an item"),
+    (b"\x61\x82", "the end of the proof is within an item"),
+    (b"\x62\x02\x00", "98 begins no item"),
+    (b"\x00", "0 begins no item"),
+    (b"\x61\x01\x00", "1 is the number of no literal"),
 ]
 
 # formula, model, what is wrong
@@ -118,6 +132,33 @@ def clauses_of(text):
 def proof_of(text):
     """The items of a proof: whether it is a deletion, and the literals in their order."""
     return items_of([word for line in lines_of(text) for word in line])
+
+
+def binary_proof_of(data):
+    """The same of the binary form: numbers in groups of seven bits, of which 97 or 100 begins an item and 0 ends it."""
+    items, item, value, shift = [], [], 0, 0
+    for byte in data:
+        value |= (byte & 127) << shift
+        shift += 7
+        if byte >= 128:
+            continue
+        item.append(value)
+        if value == 0:
+            items.append(binary_item(item))
+            item = []
+        value = shift = 0
+    if item or shift:
+        raise ValueError("the end of the proof is within an item")
+    return items
+
+
+def binary_item(numbers):
+    tag, codes = numbers[0], numbers[1:-1]
+    if tag not in b"ad":
+        raise ValueError("%d begins no item" % tag)
+    if 1 in codes:
+        raise ValueError("1 is the number of no literal")
+    return tag == ord("d"), [-(code >> 1) if code & 1 else code >> 1 for code in codes]
 
 
 def model_of(text):
@@ -216,10 +257,10 @@ def model_fault(formula, literals):
     return ""
 
 
-def proof_texts_fault(cnf, proof, reduced=None):
-    """The same of texts, what is wrong with a text itself among it."""
+def proof_texts_fault(cnf, proof, reduced=None, read=proof_of):
+    """The same of texts, what is wrong with a text itself among it; `read` reads the proof."""
     try:
-        return proof_fault(clauses_of(cnf), proof_of(proof), None if reduced is None else clauses_of(reduced))
+        return proof_fault(clauses_of(cnf), read(proof), None if reduced is None else clauses_of(reduced))
     except ValueError as fault:
         return str(fault)
 
@@ -231,9 +272,17 @@ def model_texts_fault(cnf, model):
         return str(fault)
 
 
+def read_or_fault(read, text):
+    try:
+        return read(text)
+    except ValueError as fault:
+        return str(fault)
+
+
 def check_rows():
     rows = [(texts, wanted, proof_texts_fault(*texts)) for *texts, wanted in PROOFS]
     rows += [(texts, wanted, model_texts_fault(*texts)) for *texts, wanted in MODELS]
+    rows += [(data, wanted, read_or_fault(binary_proof_of, data)) for data, wanted in BINARY]
     failed = [row for row in rows if row[1] != row[2]]
     for texts, wanted, got in failed:
         print("FAILED %r\n  wanted %r\n  got    %r" % (texts, wanted, got))
@@ -246,8 +295,8 @@ def main():
     if verb == ["rows"] and not paths:
         return check_rows()
     texts = [open(path, "rb").read() for path in paths]
-    if verb == ["proof"] and len(texts) in (2, 3):
-        fault = proof_texts_fault(*texts)
+    if verb in (["proof"], ["binary"]) and len(texts) in (2, 3):
+        fault = proof_texts_fault(*texts, read=proof_of if verb == ["proof"] else binary_proof_of)
     elif verb == ["model"] and len(texts) == 2:
         fault = model_texts_fault(*texts)
     else:
