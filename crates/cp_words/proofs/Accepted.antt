@@ -1,18 +1,17 @@
 -- What the value of an option is known to be after a parse, where the option has a default.
-use Rattle.std.proofs.Common.{◌≡◌, ◌⊎◌, ◌∙◌, ◌<◌, ◌≤◌, ◌&&◌, ◌||◌, ap, cond, drop, ℕ, ℤ, Bool, zero, suc, true, false, not, List, [], ◌∷◌, length, is_some, map, option_map, Option, Some, None, refl, sym, subst, inl, inr, arith}
-use Rattle.std.specs.Prelude.{slice_get, codes, find, pos}
+use Rattle.std.proofs.Common.{◌≡◌, ◌∙◌, ◌<◌, ◌≤◌, ◌&&◌, ◌||◌, ap, cond, ℕ, Bool, zero, suc, true, false, not, List, [], ◌∷◌, length, is_some, map, option_map, Option, Some, None, refl, sym, subst, inl, inr, arith}
+use Rattle.std.specs.Prelude.{slice_get, codes, find}
 use Rattle.std.specs.List.{All, list_all, list_any, slice_index_or}
 use Rattle.std.specs.Str.{bytes_eq}
 use Rattle.std.specs.Borrow.{Bor}
 use Rattle.std.proofs.lemmas.List.{get_or_default}
 use Rattle.std.proofs.lemmas.List.Elements.{All-get_or}
 use Rattle.std.proofs.lemmas.Slice.Eq.{bytes_eq-Decides}
-use Rattle.clap.specs.Words.{Accepts, App, BuildsTo, IsParsed, IsParsedFrom, IsPlain, IsPlainArg, Row, Rule, SameRules, Text, app_of, args_of, first_value, found_of, groups_of, has_subcommand, is_simple_and_free, items_of, matched_of, one_of, one_text, parser_of, read_as, reading_of, rows_of, rule_of, shape_of}
+use Rattle.clap.specs.Words.{Accepts, App, IsParsed, IsParsedFrom, IsPlain, Rule, SameRules, Text, app_of, args_of, found_of, groups_of, has_subcommand, matched_of, one_text, parser_of, read_as, reading_of, rows_of, rule_of, shape_of}
 use Rattle.clap.specs.Built.{IsAuto}
-use Rattle.clap.specs.Facts.{Entry, EntryPasses, HasId, HasReading, PassesArg, ValuesPass, WantsDefault, least_values, parser_of_value, unwrap_or_range}
+use Rattle.clap.specs.Facts.{Entry, EntryPasses, HasId, HasReading, PassesArg, WantsDefault, least_values, parser_of_value, unwrap_or_range}
 use Rattle.clap.specs.Faults.{has_free_rules}
-use Rattle.clap.specs.Simple.{HasReadyLeaves, IsSimple, Shape, has_simple_rules, is_ready, is_ready_leaf}
-use Rattle.clap.specs.Valid.{IsFreeArg}
+use Rattle.clap.specs.Simple.{IsSimple, has_simple_rules, is_ready, is_ready_leaf}
 use Rattle.clap.proofs.CallerLemmas.{default_present, entry_by_id, same_rules_by_id}
 use Rattle.clap.proofs.FaultLemmas.{free_args}
 use Rattle.clap.proofs.SimpleLemmas.{ready_simple, simple_groups}

@@ -1,6 +1,6 @@
 -- The techniques that letters choose, by what was seen of the letters.
 use Rattle.std.proofs.Common.{◌≡◌, ℕ, Bool, true, false, List, Some, length, cond, refl}
-use Rattle.std.specs.Prelude.{◌==◌, ◌&&◌, not, Option, None}
+use Rattle.std.specs.Prelude.{◌==◌, ◌&&◌, not, None}
 use Rattle.std.specs.List.{list_all}
 use Rattle.cp_logic.specs.declared.settings.Choice.{Choice}
 use Rattle.cp_words.specs.Letters.{choice_of, has_letter, is_technique}

@@ -1,5 +1,5 @@
 -- What clap answers, by what it finds of the words, and what its typed getters read.
-use Rattle.std.proofs.Common.{◌≡◌, ◌∙◌, ◌<◌, ◌≤◌, ◌^◌, ◌&&◌, ap, ℕ, Bool, true, false, List, [], ◌∷◌, length, Option, Some, None, refl, subst, sym, option_map, arith}
+use Rattle.std.proofs.Common.{◌≡◌, ◌∙◌, ◌≤◌, ◌&&◌, ap, ℕ, Bool, true, false, List, [], ◌∷◌, Option, Some, None, refl, subst, sym, option_map}
 use Rattle.std.specs.Prelude.{Ok, Err, Result, unwrap_or}
 use Rattle.std.specs.Borrow.{Bor}
 use Rattle.std.specs.Str.Parse.{ParsesUnsigned, digits_value, without_leading_plus}

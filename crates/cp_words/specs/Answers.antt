@@ -1,5 +1,5 @@
 -- What a reader of words answers.
-use Rattle.std.specs.Prelude.{◌≡◌, ◌≢◌, ◌≤◌, ◌<◌, ◌^◌, ℕ, List, Result, Ok, Err}
+use Rattle.std.specs.Prelude.{◌≡◌, ◌≢◌, ◌≤◌, ◌<◌, ◌^◌, Result, Ok, Err}
 use Rattle.cp_logic.specs.declared.settings.Opts.{Opts}
 use Rattle.cp_words.specs.declared.words.ExtendOptions.{ExtendOptions}
 use Rattle.cp_words.specs.declared.words.GenerateOptions.{GenerateOptions}

@@ -1,7 +1,6 @@
 -- The commands as clap reads their words: each option takes one value, and no option excludes or requires another.
-use Rattle.std.specs.Prelude.{◌≡◌, ◌==◌, ◌++◌, ℕ, Bool, true, false, List, [], ◌∷◌, Option, Some, None, pos, codes, length, unwrap_or, if◌then◌else◌}
+use Rattle.std.specs.Prelude.{◌≡◌, ◌++◌, ℕ, true, false, List, [], ◌∷◌, Option, Some, None, pos, codes, unwrap_or}
 use Rattle.std.specs.Option.{option_map_or}
-use Rattle.std.specs.Str.{bytes_eq}
 use Rattle.std.specs.Str.Parse.{digits_value, without_leading_plus}
 use Rattle.clap.specs.Words.{Accepts, App, Kinds, Row, Rule, Text, fault_of, first_of, matches_of, new_rule, one_of, read_as, reading_of, rule_of, with_rule}
 use Rattle.clap.specs.Simple.{new_shape}

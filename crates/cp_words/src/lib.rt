@@ -11,6 +11,8 @@ mod generate;
 mod letters;
 mod names;
 mod simplify;
+#[cfg(test)]
+mod tests;
 mod words;
 
 pub use extend::read_extend_words;

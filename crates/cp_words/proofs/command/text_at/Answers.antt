@@ -2,7 +2,6 @@ use Rattle.std.proofs.Common.{◌∙◌, ap, refl}
 use Rattle.clap.proofs.WalkLemmas.{first_value-rows}
 use Rattle.clap.specs.Words.{found_of}
 use Rattle.cp_words.proofs.Taken.{text_is}
-use Rattle.cp_words.proofs.Accepted.{only_there}
 use Rattle.cp_words.proofs.command.text_at.Goals as goal
 
 pub returns : goal.returns

@@ -1,8 +1,7 @@
-use Rattle.std.proofs.Common.{◌≡◌, codes, List, [], ◌∷◌, subst}
+use Rattle.std.proofs.Common.{◌≡◌, codes, [], ◌∷◌}
 use Rattle.std.proofs.lemmas.Result.{IfOk-weaker}
 use Rattle.clap.specs.Words.{app_of}
-use Rattle.clap.specs.declared.builder.value_parser.ValueParser.{ValueParser}
-use Rattle.cp_words.specs.Commands.{IsOption, command, extend_command, required_option, text_option}
+use Rattle.cp_words.specs.Commands.{command, extend_command, required_option, text_option}
 use Rattle.cp_words.proofs.Commands.{added}
 use Rattle.cp_words.proofs.extend.extend_command.Goals as goal
 

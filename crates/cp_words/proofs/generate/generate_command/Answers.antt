@@ -1,4 +1,4 @@
-use Rattle.std.proofs.Common.{◌≡◌, codes, List, [], ◌∷◌, subst}
+use Rattle.std.proofs.Common.{◌≡◌, codes, [], ◌∷◌, subst}
 use Rattle.std.proofs.lemmas.Result.{IfOk-weaker}
 use Rattle.clap.specs.Words.{app_of}
 use Rattle.clap.specs.declared.builder.value_parser.ValueParser.{ValueParser}

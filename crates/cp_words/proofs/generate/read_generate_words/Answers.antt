@@ -1,6 +1,6 @@
-use Rattle.std.proofs.Common.{◌≡◌, ◌∙◌, ap, arith, codes, map, refl, Some, string_bytes, sym, subst, true}
+use Rattle.std.proofs.Common.{◌≡◌, ◌∙◌, ap, codes, map, Some, string_bytes, sym, subst, true}
 use Rattle.std.specs.Prelude.{Ok}
-use Rattle.clap.specs.Words.{App, app_of, found_of, is_simple_and_free, rows_of}
+use Rattle.clap.specs.Words.{App, found_of, is_simple_and_free, rows_of}
 use Rattle.cp_words.specs.Commands.{generate_command, taken}
 use Rattle.cp_words.specs.Words.{generate_found, is_command}
 use Rattle.cp_words.proofs.Commands.{generate_numbers, generate_simple, given_ok}

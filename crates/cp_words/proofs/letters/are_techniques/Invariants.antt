@@ -1,4 +1,4 @@
-use Rattle.std.proofs.Common.{◌≡◌, ℕ, length}
+use Rattle.std.proofs.Common.{◌≡◌, length}
 use Rattle.std.specs.List.{list_all}
 use Rattle.cp_words.specs.Letters.{is_technique}
 use Rattle.cp_words.proofs.letters.are_techniques.Given as goal

@@ -1,4 +1,4 @@
-use Rattle.std.proofs.Common.{◌≡◌, map, ℕ, length}
+use Rattle.std.proofs.Common.{◌≡◌, map, length}
 use Rattle.std.specs.List.{list_any}
 use Rattle.cp_words.specs.Names.{clash}
 use Rattle.cp_words.specs.Roles.{named}

@@ -1,4 +1,4 @@
-use Rattle.std.proofs.Common.{◌≡◌, map, ℕ, length}
+use Rattle.std.proofs.Common.{◌≡◌, map, length}
 use Rattle.cp_words.specs.Names.{some_clash}
 use Rattle.cp_words.specs.Roles.{named}
 use Rattle.cp_words.proofs.names.some_clash.Given as goal

@@ -1,7 +1,4 @@
-use Rattle.std.proofs.Common.{◌≡◌, arith}
-use Rattle.clap.specs.Words.{found_of, rows_of}
-use Rattle.cp_logic.specs.declared.settings.Opts.{Opts}
-use Rattle.cp_words.specs.Words.{opts_at}
+use Rattle.std.proofs.Common.{arith}
 use Rattle.cp_words.proofs.simplify.opts_at.Goals as goal
 
 pub returns : goal.returns

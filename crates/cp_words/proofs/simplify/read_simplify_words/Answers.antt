@@ -1,4 +1,4 @@
-use Rattle.std.proofs.Common.{◌≡◌, ◌∙◌, ap, codes, map, string_bytes}
+use Rattle.std.proofs.Common.{◌∙◌, ap, codes, map, string_bytes}
 use Rattle.clap.specs.Words.{app_of, is_simple_and_free}
 use Rattle.cp_words.specs.Answers.{simplify_seen}
 use Rattle.cp_words.specs.Commands.{simplify_command, taken}
