@@ -1,5 +1,5 @@
 -- A journal that is the sweep's from a formula simplifies it.
-use Rattle.std.proofs.Common.{◌≡◌, ℕ, ◌-◌, ◌<◌, ◌≤◌, Bool, true, false, cond, Option, Some, None, is_some, List, refl, sym, ◌∙◌, arith}
+use Rattle.std.proofs.Common.{◌≡◌, ℕ, ◌-◌, ◌<◌, ◌≤◌, Bool, true, false, cond, Option, Some, None, is_some, List, [], refl, sym, ◌∙◌, arith}
 use Rattle.std.specs.List.{Contains, list_any, range_with_len}
 use Rattle.std.proofs.lemmas.Bool.{and_parts}
 use Rattle.std.proofs.lemmas.List.FromFn.{length-range_with_len, get_or-range_with_len}
@@ -15,7 +15,7 @@ use Rattle.cp_logic.proofs.Members.{any_from}
 use Rattle.cp_logic.proofs.Complete.{nothing-missed}
 use Rattle.cp_logic.proofs.JournalRuns.{journal-run, journal-satisfiable, journal-completed}
 use Rattle.cp_top.specs.Simplified.{IsSimplified, NothingApplies}
-use Rattle.cp_sweep.specs.Swept.{IsSwept, IsUnspent}
+use Rattle.cp_sweep.specs.Swept.{IsSwept, IsSweptAfter, IsUnspent}
 use Rattle.cp_drat.proofs.Accepted.{lemmas-rup, log-accepted}
 use Rattle.cp_drat.proofs.Ends.{log-end}
 
@@ -70,8 +70,10 @@ stop-fixpoint f rules posts h =
     let tests = tests_of_none (has_empty now.clauses) (is_spent rules (commits posts)) (list_any (is_applicable now rules) (range_with_len 1 now.variables)) h in
     nothing-applies now rules tests.0 tests.1
 
-pub swept-simplified : (f : Formula) (rules : Rules) (posts : List Post) (left : Formula) (stopped : Option Stop) → IsFormula f → IsSwept f rules posts left stopped → IsUnspent f rules stopped → IsSimplified f rules posts stopped
-swept-simplified f rules posts left stopped v s unspent = record {
+-- a journal that ends with the sweep of what the first posts leave
+pub swept-simplified : (f : Formula) (rules : Rules) (worked posts : List Post) (left : Formula) (stopped : Option Stop) → IsFormula f → IsSweptAfter f rules worked posts left stopped → IsUnspent f rules stopped
+    → IsSimplified f rules worked posts stopped
+swept-simplified f rules worked posts left stopped v s unspent = record {
   legal = s.legal;
   run = journal-run f rules posts v s.legal;
   sweep = s.swept;
@@ -84,3 +86,7 @@ swept-simplified f rules posts left stopped v s unspent = record {
   accepted = log-accepted f rules posts v s.legal;
   ended = log-end f posts;
 }
+
+-- the sweep from the start is the sweep after no posts
+pub swept-after : (f : Formula) (rules : Rules) (posts : List Post) (left : Formula) (stopped : Option Stop) → IsSwept f rules posts left stopped → IsSweptAfter f rules [] posts left stopped
+swept-after f rules posts left stopped s = record { legal = s.legal; swept = (posts, refl, s.swept); stop = s.stop; folded = s.folded }

@@ -1,10 +1,11 @@
 -- The roles that a command binds, each in its way under its name, and what binding them in turn does to the ports of a desk.
-use Rattle.std.specs.Prelude.{◌≡◌, ℕ, List, [], ◌∷◌, if◌then◌else◌, Option, Some, None, IfSome, Result, Ok, Err}
+use Rattle.std.specs.Prelude.{◌≡◌, ℕ, List, [], ◌∷◌, ◌++◌, map, if◌then◌else◌, Option, Some, None, IfSome, Result, Ok, Err}
 use Rattle.std.specs.Option.{option_map}
 use Rattle.cp_io.specs.declared.role.Role.{Role}
 use Rattle.cp_io.specs.declared.role.Way.{Way}
 use Rattle.cp_io.specs.Roles.{same_role}
 use Rattle.cp_io.specs.Port.{Ports, Rose}
+use Rattle.cp_top.specs.declared.binding.Bind.{Bind}
 
 pub record Binding : Type 0 where
   pub role : Role
@@ -13,6 +14,10 @@ pub record Binding : Type 0 where
 
 abbrev pub bind : Role → Way → List ℕ → Binding
 bind role way name = record { role = role; way = way; name = name }
+
+-- what the code is to bind
+abbrev pub wanted : List Bind → List Binding
+wanted bs = map (λ b. bind b.role b.way b.name.now) bs
 
 -- the binding of the role, if there is one
 abbrev pub binding_of : List Binding → Role → Option Binding
@@ -27,6 +32,11 @@ way_of bs role = option_map (λ b. b.way) (binding_of bs role)
 abbrev pub before : Role → List Binding → List Binding
 before role [] = []
 before role (b ∷ bs) = if same_role b.role role then [] else b ∷ before role bs
+
+-- each role is none of those before it, which come after these
+abbrev pub AreApart : List Binding → List Binding → Type 0
+AreApart before [] = Unit {0}
+AreApart before (b ∷ bs) = (binding_of before b.role ≡ None) × AreApart (before ++ b ∷ []) bs
 
 -- Just these roles are bound, each in its way, and under its name where the desk tells it.
 pub record JustBound (bs : List Binding) (ports : Ports) : Type 0 where

@@ -1,7 +1,8 @@
 -- The commands: which roles each binds and under which names, and which texts it writes in which order.
-use Rattle.std.specs.Prelude.{ℕ, List, [], ◌∷◌, Bool, codes}
-use Rattle.cp_io.specs.declared.role.Role.TheVariants.{Cnf, Reduced, Stack, Proof, Model, Full}
+use Rattle.std.specs.Prelude.{ℕ, List, [], ◌∷◌, Bool, Option, length}
+use Rattle.cp_io.specs.declared.role.Role.TheVariants.{Cnf, Reduced, Stack, Proof, Model, Full, Summary}
 use Rattle.cp_io.specs.declared.role.Way.TheVariants.{In, Out}
+use Rattle.cp_logic.specs.declared.settings.Stop.{Stop}
 use Rattle.cp_logic.specs.Assignments.{Pair}
 use Rattle.cp_logic.specs.Formulas.{Formula}
 use Rattle.cp_logic.specs.Journals.{Post}
@@ -11,32 +12,41 @@ use Rattle.cp_drat.specs.Log.{log_of}
 use Rattle.cp_drat.specs.Text.{log_text}
 use Rattle.cp_extend.specs.ModelText.{model_text}
 use Rattle.cp_stack.specs.Text.{stack_text}
+use Rattle.cp_summary.specs.declared.sizes.Sizes.{Sizes}
+use Rattle.cp_summary.specs.Text.{summary_text}
+use Rattle.cp_words.specs.declared.words.Form.{Form}
+use Rattle.cp_words.specs.Words.{Simplify, Extend, Generate}
 use Rattle.cp_top.specs.Bindings.{Binding, bind}
+use Rattle.cp_top.specs.Options.{form_for}
+use Rattle.cp_top.specs.Status.{status_of}
 use Rattle.cp_top.specs.Texts.{Written, write}
 
--- the streams of the process, and no bytes at all
-abbrev pub std_name : List ℕ
-std_name = codes "std"
-
-abbrev pub none_name : List ℕ
-none_name = codes "none"
-
--- the file of the stack that `extend` takes
-abbrev pub stack_name : List ℕ
-stack_name = codes "a"
-
 -- the roles of `simplify`, in the order in which they are bound
-abbrev pub simplify_bindings : List Binding
-simplify_bindings = bind Cnf In std_name ∷ (bind Reduced Out std_name ∷ (bind Stack Out none_name ∷ (bind Proof Out none_name ∷ [])))
+abbrev pub simplify_bindings : Simplify → List Binding
+simplify_bindings o = bind Cnf In o.cnf ∷ (bind Reduced Out o.reduced ∷ (bind Stack Out o.stack ∷ (bind Proof Out o.proof ∷ (bind Summary Out o.summary ∷ []))))
 
--- and of `extend`
-abbrev pub extend_bindings : List Binding
-extend_bindings = bind Stack In stack_name ∷ (bind Model In std_name ∷ (bind Full Out std_name ∷ []))
+-- of `extend`
+abbrev pub extend_bindings : Extend → List Binding
+extend_bindings o = bind Stack In o.stack ∷ (bind Model In o.model ∷ (bind Full Out o.full ∷ []))
 
--- what `simplify` writes, in its order: the log of the posts, the pairs over so many variables, and the formula
-abbrev pub simplify_texts : List Post → ℕ → List Pair → Formula → List Written
-simplify_texts posts variables pairs f = write Proof (log_text Text (log_of posts)) ∷ (write Stack (stack_text variables pairs) ∷ (write Reduced (cnf_text f) ∷ []))
+-- and of `generate`
+abbrev pub generate_bindings : Generate → List Binding
+generate_bindings o = bind Summary Out o.summary ∷ []
+
+-- what is told of a run: how large its formula was, what is left, what was posted, the number of pairs, and why it stopped
+abbrev pub summary_of : Sizes → List Post → List Pair → Formula → Option Stop → List ℕ
+summary_of sizes posts pairs left stopped = summary_text sizes left posts (length pairs) stopped (status_of left)
+
+-- what `simplify` writes, in its order: the log of the posts, the pairs over so many variables, what is left, and the summary
+abbrev pub simplify_texts : Form → ℕ → Sizes → List Post → List Pair → Formula → Option Stop → List Written
+simplify_texts form variables sizes posts pairs left stopped =
+    write Proof (log_text (form_for form) (log_of posts)) ∷ (write Stack (stack_text variables pairs)
+    ∷ (write Reduced (cnf_text left) ∷ (write Summary (summary_of sizes posts pairs left stopped) ∷ [])))
 
 -- what `extend` writes: the model
 abbrev pub extend_texts : List Bool → List Written
 extend_texts values = write Full (model_text values) ∷ []
+
+-- what `generate` writes: the summary
+abbrev pub generate_texts : Sizes → List Post → List Pair → Formula → Option Stop → List Written
+generate_texts sizes posts pairs left stopped = write Summary (summary_of sizes posts pairs left stopped) ∷ []

@@ -1,5 +1,5 @@
 -- What a run of `extend` does to the ports of its desk, by its outcome: the cause of each answer, and what is written.
-use Rattle.std.specs.Prelude.{◌≡◌, ◌≤◌, ℕ, List, [], Bool, length, Some, Ok, Err, IsOk}
+use Rattle.std.specs.Prelude.{◌≡◌, ◌≢◌, ℕ, List, [], Bool, Ok, Err, IsOk}
 use Rattle.cp_io.specs.declared.limits.Limit.{Limit}
 use Rattle.cp_io.specs.declared.role.Role.{Role}
 use Rattle.cp_io.specs.declared.role.Role.TheVariants.{Stack, Model, Full}
@@ -10,15 +10,17 @@ use Rattle.cp_stack.specs.declared.refusal.StackRefusal.TheVariants as stacks
 use Rattle.cp_stack.specs.Grammar.{Stack as StackText}
 use Rattle.cp_extend.specs.declared.refusal.ModelRefusal.{ModelRefusal}
 use Rattle.cp_extend.specs.declared.refusal.ModelRefusal.TheVariants as models
+use Rattle.cp_words.specs.declared.words.UsageKind.TheVariants as kind
+use Rattle.cp_words.specs.Words.{extend_options}
 use Rattle.cp_top.specs.declared.outcome.Outcome.{Outcome}
-use Rattle.cp_top.specs.declared.outcome.Outcome.TheVariants.{Done, Extended, Refused}
+use Rattle.cp_top.specs.declared.outcome.Outcome.TheVariants.{Done, Extended, Generated, Refused}
 use Rattle.cp_top.specs.declared.outcome.Refusal.TheVariants.{Usage, OpenFault, ReadFault, TooLarge, BadInput, BadStack, BadModel, NoModel, WriteFault, NoMemory}
+use Rattle.cp_top.specs.Options.{Taken}
 use Rattle.cp_top.specs.Bindings.{BindFailed}
 use Rattle.cp_top.specs.Texts.{HaveGrown, HaveStopped, NothingGrew}
 use Rattle.cp_top.specs.Commands.{extend_bindings, extend_texts}
 use Rattle.cp_top.specs.Input.{StackReads, ModelReads}
 use Rattle.cp_top.specs.Run.{ReadFailed, WriteFailed}
-use Rattle.cp_top.specs.Words.{extend_words}
 
 -- the stack reads well, and the model for its variables is refused so
 pub record ModelRefused (old : Ports) (refusal : ModelRefusal) : Type 0 where
@@ -32,20 +34,21 @@ PassesLimit Stack old limit offset = StackReads (old Stack).left (Err (stacks.To
 PassesLimit Model old limit offset = ModelRefused old (models.TooLarge limit offset)
 PassesLimit role old limit offset = ⊥
 
--- Each outcome has its cause. Want of memory is the one free answer, and it comes only where the words are taken.
+-- Each outcome has its cause. Want of memory is the one free answer, and it comes only where the command is there.
 abbrev pub HasExtendCause : List (List ℕ) → Ports → Ports → Outcome → Type 0
-HasExtendCause words old new (Done status journal stopped) = ⊥
-HasExtendCause words old new Extended = IsOk (extend_words words)
-HasExtendCause words old new (Refused (Usage kind)) = extend_words words ≡ Err kind
-HasExtendCause words old new (Refused (OpenFault role)) = IsOk (extend_words words) × BindFailed extend_bindings role old new
-HasExtendCause words old new (Refused (ReadFault role)) = IsOk (extend_words words) × ReadFailed extend_bindings role old new
-HasExtendCause words old new (Refused (TooLarge role limit offset)) = IsOk (extend_words words) × PassesLimit role old limit offset
+HasExtendCause words old new (Done status journal shifts kept stopped) = ⊥
+HasExtendCause words old new Extended = IsOk (extend_options words)
+HasExtendCause words old new (Generated journal stopped) = ⊥
+HasExtendCause words old new (Refused (Usage kind)) = extend_options words ≡ Err kind
+HasExtendCause words old new (Refused (OpenFault role)) = Taken (extend_options words) (λ o. BindFailed (extend_bindings o) role old new)
+HasExtendCause words old new (Refused (ReadFault role)) = Taken (extend_options words) (λ o. ReadFailed (extend_bindings o) role old new)
+HasExtendCause words old new (Refused (TooLarge role limit offset)) = IsOk (extend_options words) × PassesLimit role old limit offset
 HasExtendCause words old new (Refused (BadInput offset kind)) = ⊥
-HasExtendCause words old new (Refused (BadStack offset kind)) = IsOk (extend_words words) × StackReads (old Stack).left (Err (stacks.BadStack offset kind))
-HasExtendCause words old new (Refused (BadModel offset kind)) = IsOk (extend_words words) × ModelRefused old (models.BadModel offset kind)
-HasExtendCause words old new (Refused NoModel) = IsOk (extend_words words) × ModelRefused old models.NoModel
-HasExtendCause words old new (Refused (WriteFault role journal)) = IsOk (extend_words words) × WriteFailed extend_bindings role old new
-HasExtendCause words old new (Refused NoMemory) = IsOk (extend_words words)
+HasExtendCause words old new (Refused (BadStack offset kind)) = IsOk (extend_options words) × StackReads (old Stack).left (Err (stacks.BadStack offset kind))
+HasExtendCause words old new (Refused (BadModel offset kind)) = IsOk (extend_options words) × ModelRefused old (models.BadModel offset kind)
+HasExtendCause words old new (Refused NoModel) = IsOk (extend_options words) × ModelRefused old models.NoModel
+HasExtendCause words old new (Refused (WriteFault role journal)) = Taken (extend_options words) (λ o. WriteFailed (extend_bindings o) role old new)
+HasExtendCause words old new (Refused NoMemory) = extend_options words ≢ Err kind.Command
 
 -- what was left of Stack and of Model reads as pairs and a model of their variables, where the desk tells it
 pub record ReadsBoth (old : Ports) : Type 0 where

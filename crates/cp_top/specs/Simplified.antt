@@ -1,5 +1,5 @@
--- What it means that a journal simplifies a formula: it is one legal run in the sweep's order, models go back, and nothing is left to do.
-use Rattle.std.specs.Prelude.{◌≡◌, ◌≤◌, ◌↔◌, ℕ, Bool, Option, None, List, [], length, IsTrue, IsFalse}
+-- What it means that a journal simplifies a formula: it is one legal run, which a sweep ends, models go back, and nothing is left to do.
+use Rattle.std.specs.Prelude.{◌≡◌, ◌≤◌, ◌↔◌, ℕ, Bool, Option, None, List, ◌++◌, length, IsTrue, IsFalse}
 use Rattle.cp_logic.specs.declared.settings.Rules.{Rules}
 use Rattle.cp_logic.specs.declared.settings.Stop.{Stop}
 use Rattle.cp_logic.specs.Assignments.{satisfies_all, completed, IsSatisfiable}
@@ -17,12 +17,12 @@ use Rattle.cp_sweep.specs.Swept.{IsUnspent}
 abbrev pub NothingApplies : Formula → Rules → Type 0
 NothingApplies f rules = (x : ℕ) (e : Entry) → 1 ≤ x → x ≤ f.variables → IsTrue (is_at x e) → IsTrue (is_legal f rules e) → ⊥
 
-pub record IsSimplified (f : Formula) (rules : Rules) (posts : List Post) (stopped : Option Stop) : Type 0 where
+pub record IsSimplified (f : Formula) (rules : Rules) (worked posts : List Post) (stopped : Option Stop) : Type 0 where
   -- each entry is legal where it stands, and together they stand for one run of the rules
   pub legal : IsLegalJournal f rules posts
   pub run : IsRun (start_of f) (expansion posts)
-  -- the posts are those of the sweep from the start, all of worker 0 in round 0
-  pub sweep : IsSweep f rules [] 1 posts
+  -- the posts after those of the workers are the sweep of what these leave, all of worker 0 in round 0
+  pub sweep : (own : List Post) × (posts ≡ worked ++ own) × IsSweep f rules worked 1 own
   -- every assignment that satisfies what is left, completed by the pairs, satisfies the formula
   pub models : (values : List Bool) → length values ≡ f.variables → IsTrue (satisfies_all values (clauses_of (folded f posts).formula.clauses))
       → IsTrue (satisfies_all (completed values (folded f posts).pairs) (clauses_of f.clauses))

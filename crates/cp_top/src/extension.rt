@@ -2,24 +2,25 @@
 
 ghost use Rattle.std.specs.Prelude.{map, string_bytes};
 ghost use Rattle.cp_io.specs.Port.{NothingBound};
+ghost use Rattle.cp_words.specs.Words.{extend_options};
 ghost use Rattle.cp_top.specs.Commands.{extend_bindings};
 ghost use Rattle.cp_top.specs.Extension.{HasExtendCause, IsExtension};
 ghost use Rattle.cp_top.specs.Run.{AreBound};
 
 use crate::binding::bind_extend;
 use crate::input::{read_model, read_stack};
-use crate::outcome::{Outcome, Refusal};
-use crate::words::read_extend_words;
+use crate::outcome::{Outcome, Refusal, refusal_of};
 use cp_extend::{extend, print_model};
 use cp_io::{Desk, Role};
 use cp_logic::Journal;
+use cp_words::read_extend_words;
 use std::alloc::Global;
 
 /// Runs `extend`: completes the model of Model by the pairs of Stack, and writes the whole model to Full. The words are those of
 /// the command line without the program's name.
 ///
-/// It always returns. The roles Stack, Model and Full are bound, in this order, the first under the name `a`, and the others under
-/// `std`. Stack is read before Model, and nothing is written before both are read.
+/// It always returns. The roles Stack, Model and Full are bound, in this order, each under the name that its option gives. Stack is read
+/// before Model, and nothing is written before both are read.
 pub fn run_extend<D: Desk>(alloc: Global, words: &[String], desk: &mut D) -> Outcome
     // No role is bound before.
     requires { NothingBound (D.port desk.old) }
@@ -31,12 +32,13 @@ pub fn run_extend<D: Desk>(alloc: Global, words: &[String], desk: &mut D) -> Out
     ensures written { IsExtension (D.port desk.old) (D.port desk.new) result }
 
     // The roles are bound in their order, each in its way under its name, and no other is.
-    ensures bound { AreBound extend_bindings (D.port desk.new) result }
+    ensures bound { AreBound (extend_options (map string_bytes words.now)) extend_bindings (D.port desk.new) result }
 {
-    if let Err(kind) = read_extend_words(words) {
-        return Outcome::Refused(Refusal::Usage { kind });
-    }
-    if let Err(role) = bind_extend(desk) {
+    let options = match read_extend_words(alloc, words) {
+        Ok(options) => options,
+        Err(refusal) => return Outcome::Refused(refusal_of(refusal)),
+    };
+    if let Err(role) = bind_extend(desk, &options) {
         return Outcome::Refused(Refusal::OpenFault { role });
     }
     let stack = match read_stack(alloc, desk) {

@@ -67,6 +67,7 @@ fn ran(
     let line = match &outcome {
         Outcome::Done { .. } => String::from_str(alloc, "done")?,
         Outcome::Extended => String::from_str(alloc, "extended")?,
+        Outcome::Generated { .. } => String::from_str(alloc, "generated")?,
         Outcome::Refused(refusal) => format!(in alloc; "{refusal}")?,
     };
     Ok((outcome.status(), line, full))
@@ -207,7 +208,7 @@ fn other_words_are_refused(rt: HostRuntime) -> Result<(), Fail> {
         ("", "no such command"),
         ("extend", "bad options"),
         ("extend --stack", "bad options"),
-        ("extend --stack b", "bad options"),
+        ("extend --stack b --model b", "one name for two roles"),
         ("extend --stack a more", "bad options"),
         ("extend a --stack", "bad options"),
     ];

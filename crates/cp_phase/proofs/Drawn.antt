@@ -1,0 +1,230 @@
+-- What the members of a round drew and did.
+use Rattle.std.proofs.Common.{◌≡◌, ◌≢◌, ℕ, zero, suc, ◌+◌, ◌-◌, ◌<◌, ◌≤◌, min, eqb, Bool, true, false, Option, List, [], ◌∷◌, ◌++◌, length, map, get_or, take, drop, flat_map, slice_get, option_map, is_some, Some, None, All, count_by, sum_by, refl, sym, ap, subst, ◌∙◌, ⊎_elim, arith, eq-eqb}
+use Rattle.std.specs.Prelude.{◌==◌, if◌then◌else◌}
+use Rattle.std.specs.List.{AllZip}
+use Rattle.std.proofs.lemmas.Option.{slice_get-map}
+use Rattle.std.proofs.lemmas.List.Elements.{All-cons}
+use Rattle.std.proofs.lemmas.List.Sums.{sum_by-cons, sum_by-append}
+use mathlib.Core.Logic.{dite}
+use native.Mathlib.Decide.{ℕ_discrete}
+use Rattle.cp_yard.specs.Sitting.{Sitting, YardView}
+use Rattle.cp_claim.specs.Views.{View, Counter, Share, share, all_shares, times, times_named, ends, once_below, IsAlone, DrawsOnly}
+use Rattle.cp_claim.proofs.Views.{times-own, once_below-le}
+use Rattle.cp_worker.specs.declared.lists.WorkerShift.{WorkerShift}
+use Rattle.cp_worker.specs.Shifts.{candidates_of}
+use Rattle.cp_phase.specs.declared.team.Member.{Member}
+use Rattle.cp_phase.specs.Rounds.{times_taken, NoneStopped}
+use Rattle.cp_phase.specs.Teams.{IsSeatOf, AreSeats, founder_of, claim_of, members_from, claims_joined, IsReady, IsWork, IsTaken, HasWorked, IsRound}
+use Rattle.cp_phase.proofs.Lists.{some_same, none_some, written_over, zip_from}
+use Rattle.cp_phase.proofs.Joins.{IsOut, drawn_of_all, claim_shares, claims_joined-is}
+
+-- the member as the round began
+abbrev member_of : Counter → ℕ → Sitting → Member
+member_of c n s = record { seat = s; claim = claim_of c n; shift = None }
+
+abbrev pub seats_of : List Member → List Sitting
+seats_of ms = map (λ m. m.seat) ms
+
+abbrev pub shifts_of : List Member → List (Option WorkerShift)
+shifts_of ms = map (λ m. m.shift) ms
+
+pub members_ready : (y : YardView) (c : Counter) (k : ℕ) (seats : List Sitting) → All (IsOut y) seats → All (IsReady y c) (members_from c k seats)
+members_ready y c k [] each = λ i d low. absurd (omega arith)
+members_ready y c k (s ∷ ss) each = let one = each 0 s (omega arith) in
+    All-cons (IsReady y c) (member_of c k s) (members_from c (k + 1) ss) (record { table = one.table; base = one.base; counter = refl; idle = one.idle }) (members_ready y c (k + 1) ss (λ i d low. each (suc i) d (omega arith)))
+
+pub length-members : (c : Counter) (k : ℕ) (seats : List Sitting) → length (members_from c k seats) ≡ length seats
+length-members c k [] = refl
+length-members c k (s ∷ ss) = ap suc (length-members c (k + 1) ss)
+
+number_of : (v w : View) → DrawsOnly v w → w.mine.number ≡ v.mine.number
+number_of v w e = ap (λ (z : View). z.mine.number) e
+
+module _ (c : Counter) (r : ℕ) where
+  pub counters : (k : ℕ) (seats : List Sitting) (ms : List Member) → 0 < k → AllZip (HasWorked r) (members_from c k seats) ms → All (λ m. (m.claim.counter ≡ c) × (m.claim.view.mine.number ≢ 0)) ms
+  counters k [] [] low h = λ i d less. absurd (omega arith)
+  counters k [] (m ∷ ms) low h = absurd h
+  counters k (s ∷ ss) [] low h = absurd h
+  counters k (s ∷ ss) (m ∷ ms) low h =
+      All-cons (λ (m : Member). (m.claim.counter ≡ c) × (m.claim.view.mine.number ≢ 0)) m ms
+      (h.0.counter, (λ e. let n : m.claim.view.mine.number ≡ k = number_of (claim_of c k).view m.claim.view h.0.claim in omega arith))
+      (counters (k + 1) ss ms (omega arith) h.1)
+
+  -- each claim seat's number is among those of the members
+  pub numbered : (k : ℕ) (seats : List Sitting) (ms : List Member) → AllZip (HasWorked r) (members_from c k seats) ms → (w : ℕ) → k ≤ w → w < k + length seats → 0 < times_named w (claim_shares ms)
+  numbered k [] [] h w low high = absurd (omega arith)
+  numbered k [] (m ∷ ms) h w low high = absurd h
+  numbered k (s ∷ ss) [] h w low high = absurd h
+  numbered k (s ∷ ss) (m ∷ ms) h w low high =
+      let F : Share → ℕ = λ z. if z.number == w then 1 else 0 in
+      let both : times_named w (claim_shares (m ∷ ms)) ≡ times_named w (all_shares m.claim.view) + times_named w (claim_shares ms) = sum_by-append F (all_shares m.claim.view) (claim_shares ms) in
+      dite (ℕ_discrete k w)
+      (λ e. let own : 0 < times_named w (all_shares m.claim.view) = times-own w m.claim.view.mine m.claim.view.others (number_of (claim_of c k).view m.claim.view h.0.claim ∙ e) in omega arith)
+      (λ ne. let later = numbered (k + 1) ss ms h.1 w (omega arith) (omega arith) in omega arith)
+
+  -- the numbers drawn are those of the candidates taken
+  pub taken_are : (k : ℕ) (seats : List Sitting) (ms : List Member) (ss : List WorkerShift) → AllZip (HasWorked r) (members_from c k seats) ms → shifts_of ms ≡ map Some ss
+      → flat_map (λ s. s.taken.items) ss ≡ candidates_of (drawn_of_all ms)
+  taken_are k [] [] [] h e = refl
+  taken_are k [] [] (s ∷ ss) h e = absurd (let n = ap length e in omega arith)
+  taken_are k [] (m ∷ ms) ss h e = absurd h
+  taken_are k (v ∷ vs) [] ss h e = absurd h
+  taken_are k (v ∷ vs) (m ∷ ms) [] h e = absurd (let n = ap length e in omega arith)
+  taken_are k (v ∷ vs) (m ∷ ms) (s ∷ ss) h e =
+      let t = h.0.taken s (some_same m.shift (Some s) (ap (λ (l : List (Option WorkerShift)). slice_get l 0) e)) in
+      let one : s.taken.items ≡ candidates_of m.claim.view.drawn = t.taken ∙ ap candidates_of (sym t.claims) in
+      let rest = taken_are (k + 1) vs ms ss h.1 (ap tail_of e) in
+      (λ i. one i ++ rest i) ∙ sym (map-append m.claim.view.drawn (drawn_of_all ms))
+    where
+      tail_of : {A : Type 0} → List A → List A
+      tail_of [] = []
+      tail_of (x ∷ xs) = xs
+
+      map-append : (xs ys : List ℕ) → candidates_of (xs ++ ys) ≡ candidates_of xs ++ candidates_of ys
+      map-append [] ys = refl
+      map-append (x ∷ xs) ys = ap (λ zs. (x + 1) ∷ zs) (map-append xs ys)
+
+  -- where the first shift didn't stop, its claim seat has ended
+  pub some_ended : (k : ℕ) (seats : List Sitting) (ms : List Member) (ss : List WorkerShift) → 0 < length seats → AllZip (HasWorked r) (members_from c k seats) ms → shifts_of ms ≡ map Some ss
+      → NoneStopped ss → 0 < ends (claim_shares ms)
+  some_ended k [] ms ss low h e none = absurd (omega arith)
+  some_ended k (v ∷ vs) [] ss low h e none = absurd h
+  some_ended k (v ∷ vs) (m ∷ ms) [] low h e none = absurd (let n = ap length e in omega arith)
+  some_ended k (v ∷ vs) (m ∷ ms) (s ∷ ss) low h e none =
+      let t = h.0.taken s (some_same m.shift (Some s) (ap (λ (l : List (Option WorkerShift)). slice_get l 0) e)) in
+      let end = t.ended (none 0 s (omega arith)) in
+      let F : Share → ℕ = λ z. if is_some z.end then 1 else 0 in
+      let one : F m.claim.view.mine ≡ 1 = ap (λ (o : Option ℕ). if is_some o then 1 else 0) end.1 in
+      let sum : ends (claim_shares (m ∷ ms)) ≡ F m.claim.view.mine + ends (m.claim.view.others ++ claim_shares ms) = sum_by-cons F m.claim.view.mine (m.claim.view.others ++ claim_shares ms) in
+      omega arith
+
+  -- which seat and which member stand at a place
+  pub found_at : (k : ℕ) (seats : List Sitting) (ms : List Member) (i : ℕ) (w : Sitting) → AllZip (HasWorked r) (members_from c k seats) ms → slice_get (seats_of ms) i ≡ Some w
+      → (v : Sitting) × (m : Member) × (n : ℕ) × (slice_get seats i ≡ Some v) × (slice_get ms i ≡ Some m) × HasWorked r (member_of c n v) m × (m.seat ≡ w)
+  found_at k [] [] i w h at = absurd (none_some w at)
+  found_at k [] (m ∷ ms) i w h at = absurd h
+  found_at k (v ∷ vs) [] i w h at = absurd h
+  found_at k (v ∷ vs) (m ∷ ms) zero w h at = (v, m, k, refl, refl, h.0, some_same m.seat w at)
+  found_at k (v ∷ vs) (m ∷ ms) (suc i) w h at = found_at (k + 1) vs ms i w h.1 at
+
+  pub seats_after : (y : YardView) (seats : List Sitting) (ms : List Member) → AreSeats y seats → AllZip (HasWorked r) (members_from c 1 seats) ms → AreSeats y (seats_of ms)
+  seats_after y seats ms are h i w at = let f = found_at 1 seats ms i w h at in let old = are i f.0 f.3 in let go = f.5.seat.2 in subst (IsSeatOf y i) f.6 record {
+    table = f.5.table ∙ old.table;
+    base = go.base ∙ old.base;
+    number = go.number ∙ old.number;
+    own = go.own ∙ old.own;
+    others = go.others ∙ old.others;
+    idle = f.5.idle;
+  }
+
+  pub work_at : (seats : List Sitting) (ms : List Member) (ss : List WorkerShift) → AllZip (HasWorked r) (members_from c 1 seats) ms → shifts_of ms ≡ map Some ss
+      → (i : ℕ) (v w : Sitting) (s : WorkerShift) → slice_get seats i ≡ Some v → slice_get (seats_of ms) i ≡ Some w → slice_get ss i ≡ Some s → IsWork r v.view w.view s
+  work_at seats ms ss h e i v w s at_v at_w at_s =
+      let f = found_at 1 seats ms i w h at_w in
+      let same : f.0 ≡ v = some_same f.0 v (sym f.3 ∙ at_v) in
+      let left : slice_get (shifts_of ms) i ≡ Some f.1.shift = slice_get-map (λ (m : Member). m.shift) ms i ∙ ap (option_map (λ (m : Member). m.shift)) f.4 in
+      let right : slice_get (map Some ss) i ≡ Some (Some s) = slice_get-map Some ss i ∙ ap (option_map Some) at_s in
+      let is : f.1.shift ≡ Some s = some_same f.1.shift (Some s) (sym left ∙ (ap (λ (l : List (Option WorkerShift)). slice_get l i) e ∙ right)) in
+      subst (λ (z : Sitting × Sitting). IsWork r z.0.view z.1.view s) (λ j. (same j, f.6 j)) (f.5.work s is)
+
+  -- the members after their work, which was written over those from before
+  pub zipped : (seats : List Sitting) (slice news stored : List Member) (k : ℕ) → slice ≡ stored → stored ≡ members_from c 1 seats → length stored ≡ k → length news ≡ length slice
+      → ((i : ℕ) (d : Member) → i < length slice → HasWorked r (get_or slice i d) (get_or news i d)) → AllZip (HasWorked r) (members_from c 1 seats) (take k (news ++ drop (length news) stored))
+  zipped seats slice news stored k e f long count each =
+      let same : take k (news ++ drop (length news) stored) ≡ news = written_over k news stored (count ∙ ap length e) long in
+      subst (λ (z : List Member × List Member). AllZip (HasWorked r) z.0 z.1) (λ i. ((e ∙ f) i, sym same i)) (zip_from (HasWorked r) slice news count each)
+
+  pub members_long : (k : ℕ) (seats : List Sitting) (ms : List Member) → AllZip (HasWorked r) (members_from c k seats) ms → length ms ≡ length seats
+  members_long k [] [] h = refl
+  members_long k [] (m ∷ ms) h = absurd h
+  members_long k (s ∷ ss) [] h = absurd h
+  members_long k (s ∷ ss) (m ∷ ms) h = ap suc (members_long (k + 1) ss ms h.1)
+
+-- ---- counts
+
+next_is : (z x : ℕ) → eqb (z + 1) (x + 1) ≡ eqb z x
+next_is z x = grind arith
+
+pub count-candidates : (x : ℕ) (xs : List ℕ) → count_by (λ y. y == x + 1) (candidates_of xs) ≡ times x xs
+count-candidates x [] = refl
+count-candidates x (z ∷ zs) =
+    let F : ℕ → ℕ = λ y. if y == x + 1 then 1 else 0 in let G : ℕ → ℕ = λ y. if y == x then 1 else 0 in
+    let a = sum_by-cons F (z + 1) (candidates_of zs) in let b = sum_by-cons G z zs in let e : F (z + 1) ≡ G z = ap (λ (t : Bool). if t then 1 else 0) (next_is z x) in
+    let rest = count-candidates x zs in omega arith
+
+pub count-zero : (xs : List ℕ) → count_by (λ y. y == 0) (candidates_of xs) ≡ 0
+count-zero [] = refl
+count-zero (z ∷ zs) =
+    let F : ℕ → ℕ = λ y. if y == 0 then 1 else 0 in let a = sum_by-cons F (z + 1) (candidates_of zs) in let rest = count-zero zs in
+    let e : F (z + 1) ≡ 0 = grind arith in omega arith
+
+-- how often a candidate was taken, where the numbers drawn are those below a bound
+pub taken_times : (ss : List WorkerShift) (drawn : List ℕ) (bound : ℕ) → flat_map (λ s. s.taken.items) ss ≡ candidates_of drawn → ((x : ℕ) → times x drawn ≡ once_below x bound) → (x : ℕ) → times_taken (x + 1) ss ≡ once_below x bound
+taken_times ss drawn bound e d x = ap (λ (l : List ℕ). count_by (λ y. y == x + 1) l) e ∙ (count-candidates x drawn ∙ d x)
+
+pub taken_few : (ss : List WorkerShift) (drawn : List ℕ) (bound : ℕ) → flat_map (λ s. s.taken.items) ss ≡ candidates_of drawn → ((x : ℕ) → times x drawn ≡ once_below x bound) → (x : ℕ) → times_taken x ss ≤ 1
+taken_few ss drawn bound e d zero = let z : times_taken 0 ss ≡ 0 = ap (λ (l : List ℕ). count_by (λ y. y == 0) l) e ∙ count-zero drawn in omega arith
+taken_few ss drawn bound e d (suc x) =
+    let a = taken_times ss drawn bound e d x in let n : x + 1 ≡ suc x = omega arith in let b : times_taken (suc x) ss ≡ once_below x bound = ap (λ (k : ℕ). times_taken k ss) (sym n) ∙ a in
+    let c = once_below-le x bound in omega arith
+
+pub taken_each : (ss : List WorkerShift) (drawn : List ℕ) (bound : ℕ) → flat_map (λ s. s.taken.items) ss ≡ candidates_of drawn → ((x : ℕ) → times x drawn ≡ once_below x bound)
+    → (x : ℕ) → 1 ≤ x → x ≤ bound → times_taken x ss ≡ 1
+taken_each ss drawn bound e d zero low high = absurd (omega arith)
+taken_each ss drawn bound e d (suc x) low high =
+    let a = taken_times ss drawn bound e d x in let n : x + 1 ≡ suc x = omega arith in
+    ap (λ (k : ℕ). times_taken k ss) (sym n) ∙ (a ∙ (let g : x < bound = omega arith in once x bound g))
+  where
+    once : (x n : ℕ) → x < n → once_below x n ≡ 1
+    once x n low = grind arith
+
+-- ---- the round
+
+-- the claim seat that took in those of all members has every number of the claims' seats
+pub alone : (c : Counter) (r : ℕ) (seats : List Sitting) (ms : List Member) (v : View) → v ≡ claims_joined (founder_of c.limit (length seats + 1)) ms → AllZip (HasWorked r) (members_from c 1 seats) ms → IsAlone v
+alone c r seats ms v e h =
+    let is : v ≡ record (founder_of c.limit (length seats + 1)) { drawn = drawn_of_all ms; others = claim_shares ms } = e ∙ claims_joined-is (founder_of c.limit (length seats + 1)) ms in
+    subst IsAlone (sym is) (refl, each)
+  where
+    each : (w : ℕ) → w < length seats + 1 → 0 < times_named w (share 0 ∷ claim_shares ms)
+    each zero low = times-own 0 (share 0) (claim_shares ms) refl
+    each (suc w) low =
+        let a = numbered c r 1 seats ms h (suc w) (omega arith) (omega arith) in
+        let F : Share → ℕ = λ z. if z.number == suc w then 1 else 0 in
+        let b : times_named (suc w) (share 0 ∷ claim_shares ms) ≡ F (share 0) + times_named (suc w) (claim_shares ms) = sum_by-cons F (share 0) (claim_shares ms) in omega arith
+
+pub round_from : (y : YardView) (c : Counter) (r : ℕ) (seats : List Sitting) (ms : List Member) (ss : List WorkerShift) (v : View) (word : ℕ)
+    → c.limit ≡ y.base.formula.variables → 0 < length seats → AreSeats y seats → AllZip (HasWorked r) (members_from c 1 seats) ms → shifts_of ms ≡ map Some ss
+    → v ≡ claims_joined (founder_of c.limit (length seats + 1)) ms
+    → ((x : ℕ) → times x v.drawn ≡ once_below x (min c.limit word)) → (0 < ends (all_shares v) → c.limit ≤ word)
+    → IsRound y r seats (seats_of ms) ss
+round_from y c r seats ms ss v word limit some are h e is drawn ended =
+    let view : v ≡ record (founder_of c.limit (length seats + 1)) { drawn = drawn_of_all ms; others = claim_shares ms } = is ∙ claims_joined-is (founder_of c.limit (length seats + 1)) ms in
+    let d : (x : ℕ) → times x (drawn_of_all ms) ≡ once_below x (min c.limit word) = λ x. ap (λ (z : View). times x z.drawn) (sym view) ∙ drawn x in
+    let t = taken_are c r 1 seats ms ss h e in
+    let long = members_long c r 1 seats ms h in record {
+      team = length-map ms ∙ long;
+      seats = seats_after c r y seats ms are h;
+      count = sym (length-some ss) ∙ (sym (ap length e) ∙ (length-shifts ms ∙ long));
+      work = work_at c r seats ms ss h e;
+      taken_once = taken_few ss (drawn_of_all ms) (min c.limit word) t d;
+      taken_all = λ x none low high.
+          let F : Share → ℕ = λ z. if is_some z.end then 1 else 0 in
+          let some_end = some_ended c r 1 seats ms ss some h e none in
+          let a : ends (share 0 ∷ claim_shares ms) ≡ F (share 0) + ends (claim_shares ms) = sum_by-cons F (share 0) (claim_shares ms) in
+          let b : ends (all_shares v) ≡ ends (share 0 ∷ claim_shares ms) = ap (λ (z : View). ends (all_shares z)) view in
+          let past = ended (omega arith) in
+          taken_each ss (drawn_of_all ms) (min c.limit word) t d x low (omega arith);
+    }
+  where
+    length-map : (ms : List Member) → length (seats_of ms) ≡ length ms
+    length-map [] = refl
+    length-map (m ∷ ms) = ap suc (length-map ms)
+
+    length-shifts : (ms : List Member) → length (shifts_of ms) ≡ length ms
+    length-shifts [] = refl
+    length-shifts (m ∷ ms) = ap suc (length-shifts ms)
+
+    length-some : (ss : List WorkerShift) → length (map Some ss) ≡ length ss
+    length-some [] = refl
+    length-some (s ∷ ss) = ap suc (length-some ss)

@@ -1,0 +1,62 @@
+-- Rounds: shifts of all workers, round by round.
+use Rattle.std.specs.Prelude.{◌≡◌, ◌≢◌, ◌⊎◌, ℕ, ◌+◌, ◌*◌, ◌<◌, ◌≤◌, ◌==◌, Option, Some, None, List, [], take, drop, length, slice_get}
+use Rattle.std.specs.List.{count_by, flat_map, All, Contains}
+use Rattle.cp_logic.specs.declared.settings.Stop.{Stop}
+use Rattle.cp_logic.specs.Journals.{Post, posts_in_round}
+use Rattle.cp_yard.specs.Views.{SeatView}
+use Rattle.cp_hood.specs.Hoods.{IsIdle}
+use Rattle.cp_worker.specs.declared.lists.WorkerShift.{WorkerShift}
+use Rattle.cp_worker.specs.Visits.{positions}
+
+-- the shifts of the round r, counted from 0, of so many workers
+abbrev pub of_round : ℕ → ℕ → List WorkerShift → List WorkerShift
+of_round workers r shifts = take workers (drop (r * workers) shifts)
+
+-- the shift of worker w in the round r, both counted from 0
+abbrev pub shift_at : ℕ → ℕ → ℕ → List WorkerShift → Option WorkerShift
+shift_at workers r w shifts = slice_get shifts (r * workers + w)
+
+-- how often the variable was taken as a candidate
+abbrev pub times_taken : ℕ → List WorkerShift → ℕ
+times_taken x shifts = count_by (λ y. y == x) (flat_map (λ s. s.taken.items) shifts)
+
+abbrev pub NoneStopped : List WorkerShift → Type 0
+NoneStopped shifts = All (λ s. s.stopped ≡ None) shifts
+
+abbrev pub OneStopped : List WorkerShift → Type 0
+OneStopped shifts = (w : ℕ) × (s : WorkerShift) × (stop : Stop) × (slice_get shifts w ≡ Some s) × (s.stopped ≡ Some stop)
+
+-- the shift is of the worker in the round, and lists just its posts there
+pub record IsShiftOf (h : List Post) (number in_round : ℕ) (s : WorkerShift) : Type 0 where
+  pub worker : s.worker ≡ number
+  pub round : s.round ≡ in_round
+  pub commits : s.commits.items ≡ positions (posts_in_round h number in_round)
+
+-- of the rounds asked for all began, unless a shift stopped, after whose round none began
+pub record EndsAt (workers rounds begun : ℕ) (shifts : List WorkerShift) : Type 0 where
+  pub few : begun ≤ rounds
+  pub earlier : (r : ℕ) → r + 1 < begun → NoneStopped (of_round workers r shifts)
+  pub last : (begun ≡ rounds) ⊎ ((r : ℕ) × (r + 1 ≡ begun) × OneStopped (of_round workers r shifts))
+
+-- The shifts of so many workers in at most so many rounds over so many variables, after which the journal is h. They stand by round and then worker.
+-- Where no shift of a round stopped, each variable was taken once in it, and else at most once.
+pub record AreShifts (variables workers rounds : ℕ) (h : List Post) (shifts : List WorkerShift) : Type 0 where
+  pub begun : ℕ
+  pub count : length shifts ≡ begun * workers
+  pub each : (r w : ℕ) (s : WorkerShift) → w < workers → shift_at workers r w shifts ≡ Some s → IsShiftOf h (w + 1) (r + 1) s
+  pub ends : EndsAt workers rounds begun shifts
+  pub taken_once : (r x : ℕ) → times_taken x (of_round workers r shifts) ≤ 1
+  pub taken_all : (r x : ℕ) → r < begun → NoneStopped (of_round workers r shifts) → 1 ≤ x → x ≤ variables → times_taken x (of_round workers r shifts) ≡ 1
+  -- what a worker posts in an earlier round comes before what it posts in a later one
+  pub rising : (r q w : ℕ) (s t : WorkerShift) → r < q → w < workers → shift_at workers r w shifts ≡ Some s → shift_at workers q w shifts ≡ Some t
+      → (i j : ℕ) → Contains s.commits.items i → Contains t.commits.items j → i < j
+  -- each post is of number 0, or of a worker in one of these rounds
+  pub within : All (λ p. p.worker ≢ 0 → (p.worker ≤ workers) × (1 ≤ p.round) × (p.round ≤ begun)) h
+
+-- the first seat of a yard, which made no other and holds nothing
+pub record IsFirstSeat (v : SeatView) : Type 0 where
+  pub number : v.number ≡ 0
+  pub made : v.made ≡ 1
+  pub own : v.own.number ≡ 0
+  pub others : v.others ≡ []
+  pub idle : IsIdle v

@@ -1,0 +1,127 @@
+-- Teams: the seats 1, 2, .. of a yard, what they do in a round, and what they did in all rounds until then.
+use Rattle.std.specs.Prelude.{◌≡◌, ℕ, ◌+◌, ◌*◌, ◌<◌, ◌≤◌, ◌==◌, true, Some, None, List, [], ◌∷◌, ◌++◌, length, slice_get}
+use Rattle.std.specs.List.{All, AllPairs, filter}
+use Rattle.std.specs.Option.{ForSome}
+use Rattle.cp_logic.specs.Journals.{Post}
+use Rattle.cp_yard.specs.Views.{SeatView, joined}
+use Rattle.cp_yard.specs.Sitting.{Sitting, YardView}
+use Rattle.cp_hood.specs.Hoods.{IsIdle}
+use Rattle.cp_hood.specs.Seats.{Continues}
+use Rattle.cp_claim.specs.Views.{Counter, share, DrawsOnly, founder}
+use Rattle.cp_claim.specs.Views as claims
+use Rattle.cp_worker.specs.declared.lists.WorkerShift.{WorkerShift}
+use Rattle.cp_worker.specs.Visits.{positions, IsPostOf}
+use Rattle.cp_worker.specs.Shifts.{candidates_of}
+use Rattle.cp_phase.specs.declared.team.Member.{Member}
+use Rattle.cp_phase.specs.Rounds.{of_round, shift_at, times_taken, NoneStopped}
+
+-- ---- seats
+
+-- seat number i + 1 of the yard, which holds nothing and has taken in no other
+pub record IsSeatOf (y : YardView) (i : ℕ) (s : Sitting) : Type 0 where
+  pub table : s.table ≡ y.table
+  pub base : s.view.base ≡ y.base
+  pub number : s.view.number ≡ i + 1
+  pub own : s.view.own.number ≡ i + 1
+  pub others : s.view.others ≡ []
+  pub idle : IsIdle s.view
+
+-- the seats 1, 2, .. of the yard, in order
+abbrev pub AreSeats : YardView → List Sitting → Type 0
+AreSeats y seats = (i : ℕ) (s : Sitting) → slice_get seats i ≡ Some s → IsSeatOf y i s
+
+-- they have posted nothing
+abbrev pub AreNew : List Sitting → Type 0
+AreNew seats = (i : ℕ) (s : Sitting) → slice_get seats i ≡ Some s → s.view.own.posts ≡ []
+
+-- the seat after it took these in, in order
+abbrev pub joined_all : SeatView → List Sitting → SeatView
+joined_all v [] = v
+joined_all v (s ∷ ss) = joined_all (joined v s.view) ss
+
+-- ---- claims
+
+-- the first seat of claims with this limit, after so many seats were made
+abbrev pub founder_of : ℕ → ℕ → claims.View
+founder_of limit made = record (founder limit) { made = made }
+
+-- a new seat of them
+abbrev pub claim_of : Counter → ℕ → claims.Sitting
+claim_of c number = record { counter = c; view = record { lives = true; limit = c.limit; made = 0; drawn = []; mine = share number; others = [] } }
+
+-- the seats with new claim seats, numbered from here on
+abbrev pub members_from : Counter → ℕ → List Sitting → List Member
+members_from c number [] = []
+members_from c number (s ∷ ss) = record { seat = s; claim = claim_of c number; shift = None } ∷ members_from c (number + 1) ss
+
+-- the claim seat after it took in those of the members, in order
+abbrev pub claims_joined : claims.View → List Member → claims.View
+claims_joined v [] = v
+claims_joined v (m ∷ ms) = claims_joined (claims.joined v m.claim.view) ms
+
+-- ---- a round
+
+-- the member may work for the yard with the claims
+pub record IsReady (y : YardView) (c : Counter) (m : Member) : Type 0 where
+  pub table : m.seat.table ≡ y.table
+  pub base : m.seat.view.base ≡ y.base
+  pub counter : m.claim.counter ≡ c
+  pub idle : IsIdle m.seat.view
+
+-- the shift is that of the seat in the round, and lists its new posts
+pub record IsWork (in_round : ℕ) (v w : SeatView) (s : WorkerShift) : Type 0 where
+  pub posted : List (ℕ × Post)
+  pub posts : w.own.posts ≡ v.own.posts ++ posted
+  pub worker : s.worker ≡ v.number
+  pub round : s.round ≡ in_round
+  pub commits : s.commits.items ≡ positions posted
+  pub each : All (IsPostOf v.number in_round) posted
+
+-- the shift took what the claim seat drew, and if it didn't stop the claim seat has ended
+pub record IsTaken (v w : claims.View) (s : WorkerShift) : Type 0 where
+  pub drawn : List ℕ
+  pub claims : w.drawn ≡ v.drawn ++ drawn
+  pub taken : s.taken.items ≡ candidates_of drawn
+  pub ended : s.stopped ≡ None → (word : ℕ) × (w.mine.end ≡ Some word)
+
+-- the member has worked in the round; it has no shift where memory ran out
+pub record HasWorked (in_round : ℕ) (old new : Member) : Type 0 where
+  pub table : new.seat.table ≡ old.seat.table
+  pub counter : new.claim.counter ≡ old.claim.counter
+  pub idle : IsIdle new.seat.view
+  pub seat : Continues old.seat.view new.seat.view
+  pub claim : DrawsOnly old.claim.view new.claim.view
+  pub work : ForSome new.shift (IsWork in_round old.seat.view new.seat.view)
+  pub taken : ForSome new.shift (IsTaken old.claim.view new.claim.view)
+
+-- the seats before and after a round, with its shifts
+pub record IsRound (y : YardView) (in_round : ℕ) (olds news : List Sitting) (shifts : List WorkerShift) : Type 0 where
+  pub team : length news ≡ length olds
+  pub seats : AreSeats y news
+  pub count : length shifts ≡ length olds
+  pub work : (i : ℕ) (v w : Sitting) (s : WorkerShift) → slice_get olds i ≡ Some v → slice_get news i ≡ Some w → slice_get shifts i ≡ Some s → IsWork in_round v.view w.view s
+  pub taken_once : (x : ℕ) → times_taken x shifts ≤ 1
+  pub taken_all : (x : ℕ) → NoneStopped shifts → 1 ≤ x → x ≤ y.base.formula.variables → times_taken x shifts ≡ 1
+
+-- ---- all rounds until then
+
+-- of the posts, those in the round
+abbrev pub in_round : ℕ → List (ℕ × Post) → List (ℕ × Post)
+in_round r posts = filter (λ q. q.1.round == r) posts
+
+-- the posts of worker i, counted from 0, in so many rounds of so many workers: their rounds don't fall, and its shifts list those of each round
+pub record AreDone (workers i begun : ℕ) (shifts : List WorkerShift) (posts : List (ℕ × Post)) : Type 0 where
+  pub range : All (λ q. (1 ≤ q.1.round) × (q.1.round ≤ begun)) posts
+  pub rising : AllPairs (λ p q. p.1.round ≤ q.1.round) posts
+  pub worker : (r : ℕ) (s : WorkerShift) → shift_at workers r i shifts ≡ Some s → s.worker ≡ i + 1
+  pub round : (r : ℕ) (s : WorkerShift) → shift_at workers r i shifts ≡ Some s → s.round ≡ r + 1
+  pub commits : (r : ℕ) (s : WorkerShift) → shift_at workers r i shifts ≡ Some s → s.commits.items ≡ positions (in_round (r + 1) posts)
+
+-- the seats of so many workers after so many rounds, and the shifts of these
+pub record ArePlayed (y : YardView) (workers begun : ℕ) (seats : List Sitting) (shifts : List WorkerShift) : Type 0 where
+  pub team : length seats ≡ workers
+  pub are_seats : AreSeats y seats
+  pub count : length shifts ≡ begun * workers
+  pub each : (i : ℕ) (v : Sitting) → slice_get seats i ≡ Some v → AreDone workers i begun shifts v.view.own.posts
+  pub taken_once : (r x : ℕ) → times_taken x (of_round workers r shifts) ≤ 1
+  pub taken_all : (r x : ℕ) → r < begun → NoneStopped (of_round workers r shifts) → 1 ≤ x → x ≤ y.base.formula.variables → times_taken x (of_round workers r shifts) ≡ 1

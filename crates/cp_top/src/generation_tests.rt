@@ -1,0 +1,33 @@
+//! Runs of `generate` over a desk in memory.
+
+ghost use Rattle.std.specs.Prelude.{IfOk};
+ghost use Rattle.cp_io.specs.Port.{NothingBound};
+ghost use Rattle.cp_io.specs.Memory.{memory_port};
+
+use super::*;
+use cp_io::{Inputs, MemDesk, Role};
+use std::alloc::{AllocError, Global};
+use std::test::Fail;
+
+const COUNTS: &[u8] =
+    b"variables 3\nclauses 2\nliterals 5\nreduced-clauses 0\nreduced-literals 0\ntautologies 1\nsubsumed 0\nstrengthened 0\nblocked 1\neliminated 0\npairs 1\nstopped none\nstatus 10\n";
+
+fn desk_of(alloc: Global) -> Result<MemDesk, AllocError>
+    ensures { IfOk result (λ desk. NothingBound (memory_port desk)) }
+{
+    MemDesk::honest(alloc, Inputs::new(alloc))
+}
+
+#[test]
+fn a_small_formula_is_made_and_counted(rt: HostRuntime) -> Result<(), Fail> {
+    let alloc = rt.alloc();
+    let mut words = Vec::new(alloc);
+    for word in "generate --seed 7 --vars 3 --clauses 2".split(' ') {
+        words.push(String::from_str(alloc, word)?)?;
+    }
+    let mut desk = desk_of(alloc)?;
+    let outcome = run_gen(alloc, &words, &mut desk);
+    assert_eq!(rt; outcome.status(), 0);
+    assert_eq!(rt; desk.written(Role::Summary), COUNTS);
+    Ok(())
+}
