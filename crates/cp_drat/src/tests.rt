@@ -50,10 +50,7 @@ fn journals_are_printed(rt: HostRuntime) -> Result<(), Fail> {
             ],
             "2000000 0\nd 7 2000000 0\n0\n",
         ),
-        (
-            &[Step::Eliminate(3, &[], &[&[-3, 12]], &[]), Step::Look(12)],
-            "d -3 12 0\n",
-        ),
+        (&[Step::Eliminate(3, &[], &[&[-3, 12]], &[])], "d -3 12 0\n"),
     ];
     for (steps, wanted) in rows {
         let journal = journal_of(rt.alloc(), steps)?;
