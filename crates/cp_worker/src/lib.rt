@@ -10,6 +10,8 @@
 mod answer;
 mod gate;
 mod lists;
+#[cfg(test)]
+mod tests;
 mod visiting;
 mod working;
 
