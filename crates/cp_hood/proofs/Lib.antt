@@ -8,3 +8,4 @@ pub mod Rows
 pub mod Neighbours
 pub mod Tries
 pub mod Ranges
+pub mod Examples

@@ -3,3 +3,4 @@ pub mod Seats
 pub mod Tries
 pub mod Rows
 pub mod Commits
+pub mod Examples
