@@ -26,8 +26,20 @@ fn a_run_is_summed_up(rt: HostRuntime) -> Result<(), Fail> {
     print_of(&mut desk, &reduced, &journal)
         .ok()
         .ok_or("not printed")?;
-    let wanted =
-        "variables 3\nclauses 0\nliterals 0\nreduced-clauses 0\nreduced-literals 0\ntautologies 1\nsubsumed 0\nstrengthened 0\nblocked 0\neliminated 0\npairs 1\nstopped none\nstatus 10\n";
+    let wanted = "variables 3
+clauses 0
+literals 0
+reduced-clauses 0
+reduced-literals 0
+tautologies 1
+subsumed 0
+strengthened 0
+blocked 0
+eliminated 0
+pairs 1
+stopped none
+status 10
+";
     assert_eq!(rt; desk.written(Role::Summary), wanted.as_bytes());
     Ok(())
 }

@@ -9,8 +9,20 @@ use cp_io::{Inputs, MemDesk, Role};
 use std::alloc::{AllocError, Global};
 use std::test::Fail;
 
-const COUNTS: &[u8] =
-    b"variables 3\nclauses 2\nliterals 5\nreduced-clauses 0\nreduced-literals 0\ntautologies 1\nsubsumed 0\nstrengthened 0\nblocked 1\neliminated 0\npairs 1\nstopped none\nstatus 10\n";
+const COUNTS: &[u8] = b"variables 3
+clauses 2
+literals 5
+reduced-clauses 0
+reduced-literals 0
+tautologies 1
+subsumed 0
+strengthened 0
+blocked 1
+eliminated 0
+pairs 1
+stopped none
+status 10
+";
 
 fn desk_of(alloc: Global) -> Result<MemDesk, AllocError>
     ensures { IfOk result (λ desk. NothingBound (memory_port desk)) }
