@@ -196,7 +196,7 @@ fn elimination_of(alloc: Global, cell: &Cell) -> Result<Option<Entry>, AllocErro
     }
 }
 
-// How a commit was answered, and that there was nothing to commit.
+// How a commit was answered, or that there was nothing to commit.
 #[derive(Clone, Copy, PartialEq, Eq, Debug)]
 enum How {
     Nothing,
@@ -255,7 +255,7 @@ fn listed(alloc: Global, hood: &Hood) -> Result<Vec<(u32, u64)>, AllocError> {
     Ok(list)
 }
 
-// The same while another seat has the turn.
+// Commits the elimination of the centre, with three tries of the turn, while another seat has it.
 fn eliminate_beside(
     alloc: Global,
     yard: &Yard,

@@ -17,7 +17,7 @@ prepare-requires c =
       legal = (
         rules,
         legal-centre rules cell c.args.hood.now (entry_of c.in-Some.entry) c.requires.rules c.centre.ensures.variable c.centre.ensures.clauses
-        (found cell c.in_ok-entry.field-0 c.in-Some.entry c.in-Some.is c.in_ok-entry.ensures),
+            (found cell c.in_ok-entry.field-0 c.in-Some.entry c.in-Some.is c.in_ok-entry.ensures),
       );
     }
 
