@@ -86,15 +86,15 @@ weakened-read s cs i l c h e = ap (λ ks. state_after s (map (λ k. Weaken k l) 
 
 -- ---- an elimination: the additions, and then the weakenings of each list
 
-module _ (s : State) (x : ℕ) (pos neg new : List Named) (copies : List (List ℕ)) (h : IsRun s (expand (Eliminate x pos neg new))) (e : copies ≡ clauses_of new) where
+module _ (s : State) (x : ℕ) (pos neg new : List Named) (seconds : List (List ℕ)) (h : IsRun s (expand (Eliminate x pos neg new))) (e : seconds ≡ clauses_of new) where
   parts : IsRun s (map Add new) × IsRun (state_after s (map Add new)) (map (λ c. Weaken c (positive x)) pos ++ map (λ c. Weaken c (negative x)) neg)
   parts = IsRun-split s (map Add new) (map (λ c. Weaken c (positive x)) pos ++ map (λ c. Weaken c (negative x)) neg) h
 
-  pub eliminate-within : All (IsWithin s.formula.variables) copies
+  pub eliminate-within : All (IsWithin s.formula.variables) seconds
   eliminate-within = subst (All (IsWithin s.formula.variables)) (sym e) (adds-within s new parts.0)
 
   -- the state after the additions
-  module _ (f : Formula) (q : f ≡ with_all s.formula copies) where
+  module _ (f : Formula) (q : f ≡ with_all s.formula seconds) where
     added_to : state_after s (map Add new) ≡ (let t : State = record { formula = f; pairs = s.pairs } in t)
     added_to = adds-after s new parts.0 ∙ ap (λ g. let t : State = record { formula = g; pairs = s.pairs } in t) (ap (with_all s.formula) (sym e) ∙ sym q)
 
@@ -114,7 +114,7 @@ module _ (s : State) (x : ℕ) (pos neg new : List Named) (copies : List (List �
       pub eliminate-variables : t.formula.variables ≡ s.formula.variables
       eliminate-variables =
           ap (λ (u : State). u.formula.variables) r ∙ variables-state_after (record { formula = f; pairs = s.pairs }) (map (λ c. Weaken c (positive x)) pos)
-          ∙ ap (λ (g : Formula). g.variables) q ∙ with_all-variables s.formula copies
+          ∙ ap (λ (g : Formula). g.variables) q ∙ with_all-variables s.formula seconds
 
       pub eliminate-after : state_after t (map (λ c. Weaken c (negative x)) neg) ≡ state_after s (expand (Eliminate x pos neg new))
       eliminate-after =

@@ -20,8 +20,8 @@ pub record IsLedger (first : Formula) (rules : Rules) (posts : List Post) (now :
   pub in_budget : (rules.budget ≡ 0) ⊎ (count ≤ rules.budget)
   pub empty : least ≡ least_empty now.clauses
 
--- there is room for a post of the entry: for the post, its new clauses and its pairs, and copies of the new clauses
+-- there is room for a post of the entry: for the post, its new clauses and its pairs, and a second clause of each new one
 abbrev pub IsReady : Option Entry → ℕ → ℕ → ℕ → List (List ℕ) → Type 0
-IsReady None posts clauses pairs copies = Unit {0}
-IsReady (Some e) posts clauses pairs copies =
-    (1 ≤ posts) × (length (new_clauses e) ≤ clauses) × (length (weakened e) ≤ pairs) × (copies ≡ clauses_of (new_clauses e))
+IsReady None posts clauses pairs seconds = Unit {0}
+IsReady (Some e) posts clauses pairs seconds =
+    (1 ≤ posts) × (length (new_clauses e) ≤ clauses) × (length (weakened e) ≤ pairs) × (seconds ≡ clauses_of (new_clauses e))

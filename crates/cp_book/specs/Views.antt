@@ -9,7 +9,7 @@ use Rattle.cp_logic.specs.Entries.{Entry, numbered}
 use Rattle.cp_logic.specs.Journals.{Post, folded, commits}
 use Rattle.cp_logic.specs.Sweeps.{is_spent}
 
--- the first formula, the rules, the posts, and the entry for which there is room and copies, if any
+-- the first formula, the rules, the posts, and the entry for which there is room and a second clause of each new one, if any
 pub record BookView : Type 0 where
   pub first : Formula
   pub rules : Rules

@@ -16,7 +16,7 @@ ghost use Rattle.cp_book.specs.Views.{current, current_pairs, with_post, stop_in
 ghost use Rattle.cp_book.specs.Answers.{answer_to, given_answer, passes_numbers};
 
 use crate::answers::PostAnswer;
-use crate::changes::{apply, copies_of_added, empty_added, first_empty, weakened_count};
+use crate::changes::{apply, empty_added, first_empty, seconds_of_added, weakened_count};
 use crate::legality::is_legal;
 use cp_logic::{Clause, Entry, Formula, Journal, Post, Rules, Stack, Stop};
 use std::alloc::{AllocError, Global};
@@ -42,8 +42,8 @@ pub struct Book {
     // The least number of an empty clause. Nothing is posted once there is one.
     empty: Option<u64>,
     prepared: Option<Snapshot<Entry>>,
-    // Copies of the clauses that the prepared entry adds.
-    copies: Vec<Clause>,
+    // A second clause of each that the prepared entry adds.
+    seconds: Vec<Clause>,
 }
 
 impl Model for Book {
@@ -66,7 +66,7 @@ impl Model for Book {
 
     ghost invariant = { λ b.
         IsLedger b.first.value.formula b.rules b.journal.items b.formula.formula (pairs_of b.stack.pairs) b.stack.vars b.commits b.empty
-        × IsReady (option_map (λ s. entry_of s.value) b.prepared) b.journal.spare b.formula.spare b.stack.pairs.spare b.copies.items };
+        × IsReady (option_map (λ s. entry_of s.value) b.prepared) b.journal.spare b.formula.spare b.stack.pairs.spare b.seconds.items };
 }
 
 impl Book {
@@ -85,12 +85,12 @@ impl Book {
             stack: Stack::new(alloc, vars),
             commits: 0,
             prepared: None,
-            copies: Vec::new(alloc),
+            seconds: Vec::new(alloc),
         })
     }
 
-    /// Makes room for one post of the entry, and copies of its new clauses, since the journal keeps the entry's own. On a refusal
-    /// the book is prepared for none.
+    /// Makes room for one post of the entry, and a second clause of each new one, since the journal keeps the entry's own. On a
+    /// refusal the book is prepared for none.
     pub fn prepare(&mut self, entry: &Entry) -> Result<(), AllocError>
         requires { IsFalse (is_look (entry_of entry.now)) }
         ensures same { self.new ≡ record self.old { prepared = self.new.prepared } }
@@ -101,7 +101,7 @@ impl Book {
         self.formula.reserve(entry.new_count() as usize)?;
         let pairs = weakened_count(entry).ok_or(AllocError)?;
         self.stack.reserve(pairs)?;
-        self.copies = copies_of_added(self.alloc, entry)?;
+        self.seconds = seconds_of_added(self.alloc, entry)?;
         self.prepared = Some(Snapshot::of(entry));
         Ok(())
     }
@@ -291,8 +291,8 @@ impl Book {
     {
         let entry = entry.numbered(self.formula.next());
         self.empty = empty_added(&entry);
-        let copies = mem::replace(&mut self.copies, Vec::new(self.alloc));
-        apply(&mut self.formula, &mut self.stack, &entry, copies);
+        let seconds = mem::replace(&mut self.seconds, Vec::new(self.alloc));
+        apply(&mut self.formula, &mut self.stack, &entry, seconds);
         self.prepared = None;
         let position = self.journal.push_reserved(Post {
             worker,

@@ -13,29 +13,29 @@ ghost use Rattle.cp_book.specs.Empties.{least_empty};
 use cp_logic::{Clause, Entry, Formula, Lit, Named, NamedList, Pair, Stack};
 use std::alloc::{AllocError, Global};
 
-/// Copies of the clauses that the entry adds.
-pub(crate) fn copies_of_added(alloc: Global, entry: &Entry) -> Result<Vec<Clause>, AllocError>
-    ensures { IfOk result (λ copies. copies.items ≡ clauses_of (new_clauses (entry_of entry.now))) }
+/// A second clause of each that the entry adds.
+pub(crate) fn seconds_of_added(alloc: Global, entry: &Entry) -> Result<Vec<Clause>, AllocError>
+    ensures { IfOk result (λ seconds. seconds.items ≡ clauses_of (new_clauses (entry_of entry.now))) }
 {
-    let mut copies = Vec::new(alloc);
+    let mut seconds = Vec::new(alloc);
     match entry {
-        Entry::Strengthen { new, .. } => copies.push(new.clause.again()?)?,
-        Entry::Eliminate { new, .. } => return copies_of(alloc, new),
+        Entry::Strengthen { new, .. } => seconds.push(new.clause.again()?)?,
+        Entry::Eliminate { new, .. } => return seconds_of(alloc, new),
         _ => {}
     }
-    Ok(copies)
+    Ok(seconds)
 }
 
-// Copies of the clauses of the list.
-fn copies_of(alloc: Global, list: &NamedList) -> Result<Vec<Clause>, AllocError>
-    ensures { IfOk result (λ copies. copies.items ≡ clauses_of list.now.items) }
+// A second clause of each of the list.
+fn seconds_of(alloc: Global, list: &NamedList) -> Result<Vec<Clause>, AllocError>
+    ensures { IfOk result (λ seconds. seconds.items ≡ clauses_of list.now.items) }
 {
-    let mut copies = Vec::new(alloc);
-    copies.reserve(list.len())?;
+    let mut seconds = Vec::new(alloc);
+    seconds.reserve(list.len())?;
     for named in list.as_slice() {
-        copies.push(named.clause.again()?)?;
+        seconds.push(named.clause.again()?)?;
     }
-    Ok(copies)
+    Ok(seconds)
 }
 
 /// The number of clauses that the entry weakens, unless no `usize` has it.
@@ -49,14 +49,14 @@ pub(crate) fn weakened_count(entry: &Entry) -> Option<usize>
     }
 }
 
-/// Applies the entry's rules to the formula and the stack, given copies of the clauses that it adds. It takes no memory.
+/// Applies the entry's rules to the formula and the stack, given a second clause of each that it adds. It takes no memory.
 ///
 /// A clause that is weakened goes to the stack as it comes out of the formula.
-pub(crate) fn apply(formula: &mut Formula, stack: &mut Stack, entry: &Entry, copies: Vec<Clause>)
+pub(crate) fn apply(formula: &mut Formula, stack: &mut Stack, entry: &Entry, seconds: Vec<Clause>)
     requires variables { stack.old.vars ≡ formula.old.formula.variables }
     requires run { IsRun (state_of formula.old.formula stack.old.pairs) (expand (entry_of entry.now)) }
     requires numbers { formula.old.formula.next + length (new_clauses (entry_of entry.now)) ≤ number_limit }
-    requires copied { copies.items ≡ clauses_of (new_clauses (entry_of entry.now)) }
+    requires seconds { seconds.items ≡ clauses_of (new_clauses (entry_of entry.now)) }
     requires clauses { length (new_clauses (entry_of entry.now)) ≤ formula.old.spare }
     requires pairs { length (weakened (entry_of entry.now)) ≤ stack.old.pairs.spare }
     ensures state { state_of formula.new.formula stack.new.pairs ≡ state_after (state_of formula.old.formula stack.old.pairs) (expand (entry_of entry.now)) }
@@ -67,12 +67,12 @@ pub(crate) fn apply(formula: &mut Formula, stack: &mut Stack, entry: &Entry, cop
             formula.remove(gone.number);
         }
         Entry::Strengthen { on, .. } => {
-            push_all(formula, copies);
+            push_all(formula, seconds);
             formula.remove(on.number);
         }
         Entry::Block { gone, lit } => weaken(formula, stack, gone, *lit),
         Entry::Eliminate { var, pos, neg, .. } => {
-            push_all(formula, copies);
+            push_all(formula, seconds);
             weaken_all(formula, stack, pos, *var, true);
             weaken_all(formula, stack, neg, *var, false);
         }

@@ -1,4 +1,4 @@
-// The counter from which seats draw.
+//! The counter from which seats draw.
 ghost use Rattle.std.specs.Prelude.{◌≡◌, ◌≢◌, ℕ, ◌+◌, ◌<◌, ◌≤◌, All, min, Some, None, IfOk, IfSome, IfNone};
 ghost use Rattle.cp_claim.specs.Views.{founder, parent, child, joined, with_number, with_end, all_shares, times, ends, once_below, DrawsOnly, IsAlone, HasRead};
 

@@ -1,4 +1,4 @@
-// The steps of a seat: a draw, a split and a join.
+//! The steps of a seat: a draw, a split and a join.
 ghost use Rattle.cp_claim.specs.Views.{Draws, parent, child, joined, spent};
 
 use crate::view::ClaimView;

@@ -1,4 +1,4 @@
-// A seat that draws numbers from claims.
+//! A seat that draws numbers from claims.
 ghost use Rattle.std.specs.Prelude.{◌≡◌};
 
 use crate::view::Place;

@@ -1,4 +1,4 @@
-// What the table under the claims knows of its seats, and the rule that it keeps.
+//! What the table under the claims knows of its seats, and the rule that it keeps.
 use atomic_table::{Seat, Table, TableRule};
 use std::alloc::Global;
 use std::marker::Model;

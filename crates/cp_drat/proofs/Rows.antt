@@ -3,10 +3,10 @@ use Rattle.std.proofs.Common.{◌≡◌, ℕ, List, [], ◌∷◌, map, refl}
 use Rattle.std.specs.Prelude.{codes}
 use Rattle.std.specs.Fmt.{digits}
 use Rattle.cp_logic.specs.declared.named.Named.{Named}
+use Rattle.cp_logic.specs.declared.settings.Form.TheVariants.{Text, Binary}
 use Rattle.cp_logic.specs.Entries.{Entry, Subsume, Strengthen, Block, Eliminate, Look}
 use Rattle.cp_logic.specs.Journals.{Post}
 use Rattle.cp_drat.specs.Log.{log_of}
-use Rattle.cp_drat.specs.declared.form.Form.TheVariants.{Text, Binary}
 use Rattle.cp_drat.specs.Text.{groups, lemma_text, deletion_text, literal_text, end_text, log_text}
 
 abbrev pub named : ℕ → List ℕ → Named

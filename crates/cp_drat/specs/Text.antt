@@ -1,8 +1,8 @@
 -- The text of a proof log, in either form of DRAT: in the text form each number is written in digits, in the binary one in groups of bits.
 use Rattle.std.specs.Prelude.{ℕ, zero, suc, ◌+◌, ◌-◌, ◌*◌, ◌/◌, ◌%◌, ◌≡◌, nat_lt, List, [], ◌∷◌, ◌++◌, flat_map, codes, decimal, Bool, if◌then◌else◌}
+use Rattle.cp_logic.specs.declared.settings.Form.{Form}
+use Rattle.cp_logic.specs.declared.settings.Form.TheVariants.{Text, Binary}
 use Rattle.cp_logic.specs.Literals.{variable_of, is_positive, IsLiteral}
-use Rattle.cp_drat.specs.declared.form.Form.{Form}
-use Rattle.cp_drat.specs.declared.form.Form.TheVariants.{Text, Binary}
 use Rattle.cp_drat.specs.Log.{Item, Lemma, Deletion}
 
 abbrev pub sign_text : Bool → List ℕ

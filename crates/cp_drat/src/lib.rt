@@ -4,11 +4,11 @@
 //! legal journal it is accepted, and that the literals of the binary form are read back.
 #![tactic(auto)]
 
-mod form;
 pub mod laws;
+mod marks;
 mod printing;
 #[cfg(test)]
 mod tests;
 
-pub use form::Form;
+pub use cp_logic::Form;
 pub use printing::print_log;

@@ -6,11 +6,10 @@
 //!
 //! In the text form, which each checker reads, a lemma is its literals and a 0. In the binary form, that of drat-trim, an item begins
 //! with an `a` or a `d`, and a literal is its code in groups of seven bits. Both are one walk over the journal, and `Form` says what
-//! stands around the literals. As in CaDiCaL's `drattracer.cpp` each change of
-//! the clauses is a line where it happens, so the log is the journal gone through once, with nothing kept beside it. Two orders
-//! matter. The new clause stands before the old one is deleted, since the old one is what shows that the new one is implied: so a
-//! shorter clause comes before the one that it replaces, and resolvents before the clauses of their variable. And nothing follows
-//! the empty clause, with which a checker is done.
+//! stands around the literals. As in CaDiCaL's `drattracer.cpp` each change of the clauses is a line where it happens, so the log is
+//! the journal gone through once, with nothing kept beside it. Two orders matter. The new clause stands before the old one is
+//! deleted, since the old one is what shows that the new one is implied: so a shorter clause comes before the one that it replaces,
+//! and resolvents before the clauses of their variable. And nothing follows the empty clause, with which a checker is done.
 //!
 //! A deletion names a clause by its literals, as the format has no numbers. The clause that a checker takes out may thus be another
 //! one than the journal's where two have the same literals, and what is left is the same. A clause by which another was made
@@ -18,8 +17,7 @@
 //! to complete a model.
 //!
 //! Each lemma of a legal journal is RUP where it stands, and needs no RAT; and where the journal comes to the empty clause, the log
-//! has it: `laws` has both. What is RUP stays so among more clauses, so a checker that passes over deletions, as some do with those
-//! of unit clauses, takes the log too. A formula that has the empty clause from the start has no legal step, and its log is empty.
+//! has it: `laws` has both. A formula that has the empty clause from the start has no legal step, and its log is empty.
 
 ghost use Rattle.std.specs.Prelude.{◌≡◌, [], ◌∷◌, ◌++◌, Some, map};
 ghost use Rattle.cp_io.specs.declared.role.Way.TheVariants.{Out};
@@ -30,9 +28,9 @@ ghost use Rattle.cp_logic.specs.Views.{entry_of, post_of};
 ghost use Rattle.cp_drat.specs.Log.{Lemma, Deletion, lemma_of, deletion_of, items_of, cut, has_end, is_end, log_of};
 ghost use Rattle.cp_drat.specs.Text.{log_text, item_text, clause_text, literal_text, signed_text, code_bytes, sign_text};
 
-use crate::form::Form;
+use crate::marks::{deletion_mark, end_mark, lemma_mark};
 use cp_io::{Desk, Failed, OutputBuffer, Role};
-use cp_logic::{Clause, Entry, Journal, Lit, Named, Post};
+use cp_logic::{Clause, Entry, Form, Journal, Lit, Named, Post};
 
 /// Prints the DRAT proof of a journal to the role Proof in the form, up to the first empty clause. It takes no memory.
 ///
@@ -158,7 +156,7 @@ fn put_lemma<D: Desk>(buffer: &mut OutputBuffer, desk: &mut D, form: Form, claus
     ensures ends { result ≡ is_end (Lemma clause.now) }
 {
     let lits = clause.lits();
-    buffer.put(desk, Role::Proof, form.lemma_mark());
+    buffer.put(desk, Role::Proof, lemma_mark(form));
     put_clause(buffer, desk, form, lits);
     lits.is_empty()
 }
@@ -168,7 +166,7 @@ fn put_deletion<D: Desk>(buffer: &mut OutputBuffer, desk: &mut D, form: Form, cl
     ensures prints { Prints Proof (item_text form (Deletion clause.now)) buffer.old (D.port desk.old) buffer.new (D.port desk.new) }
     ensures bound { (D.port desk.new Proof).way ≡ Some Out }
 {
-    buffer.put(desk, Role::Proof, form.deletion_mark());
+    buffer.put(desk, Role::Proof, deletion_mark(form));
     put_clause(buffer, desk, form, clause.lits());
 }
 
@@ -180,7 +178,7 @@ fn put_clause<D: Desk>(buffer: &mut OutputBuffer, desk: &mut D, form: Form, lits
     for lit in lits {
         put_literal(buffer, desk, form, *lit);
     }
-    buffer.put(desk, Role::Proof, form.end_mark());
+    buffer.put(desk, Role::Proof, end_mark(form));
 }
 
 #[tactic(auto, unfolding(crate::specs::Text::literal_text))]

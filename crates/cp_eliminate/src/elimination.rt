@@ -10,11 +10,11 @@
 //! Most tries fail, so a try must be cheap. As in those solvers the resolvents are counted before any is built: a pair is told to
 //! give a tautology by one pass over both clauses with no memory taken, and the count stops at the first resolvent above the bound,
 //! so that a variable that occurs often costs about as many pairs as it has clauses, tautologies apart. The two sides are split
-//! once, as loans from the cell, and a clause is copied only for an elimination that goes through. MiniSat and CaDiCaL also refuse
+//! once, as loans from the cell, and a clause is shared only for an elimination that goes through. MiniSat and CaDiCaL also refuse
 //! where a resolvent is long, and CaDiCaL where the variable occurs very often; no such limit is in the rules here, so that what is
-//! eliminated depends on the clauses and the bound alone. CaDiCaL looks for definitions of the variable (gates) besides, which
-//! leave out resolvents that others imply; here subsumption and strengthening take those. A variable that occurs in one sign only
-//! has no resolvent, so its clauses just go: pure literals need no rule of their own.
+//! eliminated depends on the clauses and the bound alone. CaDiCaL looks for definitions of the variable (gates) besides, and leaves
+//! out resolvents that others imply; here they are added, and count against the bound. A variable that occurs in one sign only has
+//! no resolvent, so its clauses just go: pure literals need no rule of their own.
 //!
 //! A tautology among the variable's clauses would give resolvents that still have the variable, so there must be none.
 ghost use Rattle.std.specs.Prelude.{◌≡◌, ◌≤◌, ◌^◌, IfOk};
@@ -24,7 +24,7 @@ ghost use Rattle.cp_logic.specs.Clauses.{is_tautology};
 ghost use Rattle.cp_logic.specs.Views.{entry_of};
 ghost use Rattle.cp_eliminate.specs.Eliminating.{elimination_within, is_within};
 
-use crate::lent::{Lent, copies, gathered};
+use crate::lent::{Lent, gathered, seconds};
 use crate::resolvents::{are_at_most, numbered_resolvents};
 use cp_logic::Entry;
 use cp_occ::Cell;
@@ -53,8 +53,8 @@ pub fn try_eliminate(
         return Ok(None);
     }
     let new = numbered_resolvents(alloc, &pos, &neg, var, next)?;
-    let pos = copies(alloc, &pos)?;
-    let neg = copies(alloc, &neg)?;
+    let pos = seconds(alloc, &pos)?;
+    let neg = seconds(alloc, &neg)?;
     Ok(Some(Entry::Eliminate { var, pos, neg, new }))
 }
 

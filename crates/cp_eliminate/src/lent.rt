@@ -34,8 +34,8 @@ impl<'a> Lent<'a> {
         self.clause
     }
 
-    // A copy of the clause, with its number.
-    fn copied(&self, alloc: Global) -> Result<Named, AllocError>
+    // A second clause of the same literals, with its number.
+    fn second(&self, alloc: Global) -> Result<Named, AllocError>
         ensures { IfOk result (λ c. c ≡ self.now) }
     {
         Ok(Named {
@@ -59,14 +59,14 @@ pub(crate) fn gathered<'a>(
     Ok(list)
 }
 
-// A copy of each clause, with its number.
-pub(crate) fn copies(alloc: Global, clauses: &[Lent<'_>]) -> Result<NamedList, AllocError>
+// A second clause of each, with its number.
+pub(crate) fn seconds(alloc: Global, clauses: &[Lent<'_>]) -> Result<NamedList, AllocError>
     ensures { IfOk result (λ list. list.items ≡ clauses.now) }
 {
     let mut list = NamedList::new(alloc);
     list.reserve(clauses.len())?;
     for clause in clauses {
-        list.push(clause.copied(alloc)?)?;
+        list.push(clause.second(alloc)?)?;
     }
     Ok(list)
 }

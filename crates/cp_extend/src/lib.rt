@@ -1,5 +1,7 @@
-//! Models of the formula that was read. A `ModelReader` reads the model of the formula that is left, `extend` completes it by the
-//! pairs of the run, and `print_model` writes a model to the role Full of a desk. What a text reads as is `specs/Grammar`.
+//! Models of the formula that was read.
+//!
+//! A layer above may rely on this: a `ModelReader` reads the model of the formula that is left, `extend` completes it by the pairs of
+//! the run, and `print_model` writes a model to the role Full of a desk. What a text reads as is `specs/Grammar`.
 #![tactic(auto)]
 
 mod completion;

@@ -4,8 +4,9 @@
 //! Each finder gives the least entry of its kind that is legal, by the numbers of the clauses that it names and then the literal,
 //! and None exactly where there is none. Where the cell has all clauses of the variable, that is the least among all clauses, as the
 //! laws say. A tautology is looked for without memory. The other two look at a `Lookup`: the cell's clauses with their signatures, and
-//! where they are many in buckets by their literals, so that few pairs of clauses are compared literal by literal. One lookup serves
-//! both: `subsumed_in` and `strengthened_in` take it, `first_subsumed` and `first_strengthened` make one of their own.
+//! where they are many in buckets by their literals, so that few pairs of clauses should be compared literal by literal; no contract
+//! says so. One lookup serves both: `subsumed_in` and `strengthened_in` take it, `first_subsumed` and `first_strengthened` make one of
+//! their own.
 #![tactic(auto)]
 
 pub mod laws;

@@ -1,7 +1,7 @@
 //! Signatures: 64 bits of a clause, one set for each of its literals.
 //!
-//! A clause that is a subset of another has no bit that the other lacks, so one operation on two numbers excludes most pairs before
-//! a literal is read. As in SatELite (Een and Biere, SAT 2005, "Effective Preprocessing in SAT through Variable and Clause
+//! A clause that is a subset of another has no bit that the other lacks, so one operation on two numbers may exclude a pair before a
+//! literal is read. As in SatELite (Een and Biere, SAT 2005, "Effective Preprocessing in SAT through Variable and Clause
 //! Elimination") and MiniSat's `Clause::calcAbstraction`. Those take the variable's low bits; here the literal's code is
 //! multiplied first, since the variables of an encoded problem often stand at distances that are multiples of a power of two.
 ghost use Rattle.std.specs.Prelude.{◌≡◌, ◌<◌, ℕ, List, IsTrue, bit_and};

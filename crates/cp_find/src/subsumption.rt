@@ -5,7 +5,8 @@
 //! removes (backwards) or for one that removes it (forwards). Here one cell is searched, since whoever holds a variable holds its
 //! clauses and no others, and a clause that is removed by a clause with the variable has the variable too. The pairs are looked at
 //! by ascending numbers, so that the answer is the least pair; of two equal clauses the one with the less number removes the other.
-//! For each clause only those are looked at that share its rarest literal, and most of these are refused by their signatures.
+//! For each clause those are looked at that lie in the shortest bucket of its literals, or all where there are no buckets, and each
+//! is told by its signature first.
 ghost use Rattle.std.specs.Prelude.{◌≡◌, ◌≤◌, ◌^◌, IfOk};
 ghost use Rattle.std.specs.List.{find};
 ghost use Rattle.std.specs.Option.{option_map};

@@ -64,7 +64,7 @@ pub fn commit(
         yard.end_turn(seat, book);
         return Err(CommitAnswer::NoMemory);
     }
-    Ok(post(yard, seat, hood, book, prepared, entry, round))
+    Ok(post_under_turn(yard, seat, hood, book, prepared, entry, round))
 }
 
 // At most so many tries of the turn: the book of the one that got it, or whom the last one met.
@@ -108,7 +108,7 @@ fn refusal_of(book: &Book, entry: &Entry) -> Option<CommitAnswer>
 }
 
 // Lets the hood's cells follow the entry, which the book takes, and ends the turn with its post.
-fn post(
+fn post_under_turn(
     yard: &Yard,
     seat: &mut Seat,
     hood: &mut Hood,

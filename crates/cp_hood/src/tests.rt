@@ -355,7 +355,7 @@ fn eliminate_at(
     requires low { 1 ≤ x }
     requires high { x ≤ yard.now.base.formula.variables }
     requires idle { IsIdle seat.old.view }
-    ensures table { seat.new.table ≡ seat.old.table }
+    ensures table { OnOk result (seat.new.table ≡ seat.old.table) }
     ensures base { OnOk result (seat.new.view.base ≡ seat.old.view.base) }
     ensures idle { OnOk result (IsIdle seat.new.view) }
 {

@@ -7,7 +7,7 @@ use Rattle.std.proofs.lemmas.Bool.{eq-eqb, ltb-true, ltb-false, lt-ltb, le-ltb, 
 use Rattle.std.proofs.lemmas.List.{length-map}
 use Rattle.std.proofs.lemmas.List.Elements.{All-weaker, All-cons, All-head, All-tail, All-contains}
 use Rattle.cp_logic.specs.declared.named.Named.{Named}
-use Rattle.cp_logic.specs.declared.slots.Slot.{Slot}
+use Rattle.cp_logic.specs.Slots.{Slot}
 use Rattle.cp_logic.specs.Clauses.{IsAscending}
 use Rattle.cp_logic.specs.Formulas.{Formula, IsFormula, IsWithin, numbers_of, find_number, with_clause}
 use Rattle.cp_logic.specs.Rules.{placed, raised}
@@ -224,6 +224,7 @@ kept-filled variables next count n slots new c k h l free a w =
       valid = subst (λ (cs : List Named). IsFormula (record { variables = variables; next = next; clauses = cs })) (sym h.stands)
           (IsFormula-placed f (record { number = n; clause = c }) k.valid l free a w);
       most = k.most;
+      limit = k.limit;
     }
   where
     length-with_clause : (x : Named) (cs : List Named) → length (with_clause x cs) ≡ length cs + 1
@@ -250,6 +251,7 @@ kept-raised variables more next count slots k l h = record {
   counted = k.counted;
   valid = IsFormula-raised (record { variables = variables; next = next; clauses = standing slots }) more k.valid l;
   most = h;
+  limit = k.limit;
 }
 
 -- there are no more clauses than numbers below the next one

@@ -19,22 +19,22 @@ use std::slice;
 
 // Places of one clause, seen as the list of what stands there.
 #[derive(Drop)]
-pub(crate) struct Copies {
-    places: Vec<Place>,
+pub(crate) struct Places {
+    list: Vec<Place>,
 }
 
-impl Model for Copies {
+impl Model for Places {
     ghost use Rattle.std.specs.Prelude.{ℕ, List};
 
     ghost Value = { List (List ℕ) };
 
-    ghost view = { λ c. c.places.items };
+    ghost view = { λ p. p.list.items };
 }
 
 /// For each new clause of an entry its places, one for each of its variables, seen as the lists of what stands there.
 #[derive(Drop)]
 pub struct Prepared {
-    copies: Vec<Copies>,
+    places: Vec<Places>,
 }
 
 impl Model for Prepared {
@@ -42,7 +42,7 @@ impl Model for Prepared {
 
     ghost Value = { List (List (List ℕ)) };
 
-    ghost view = { λ p. p.copies.items };
+    ghost view = { λ p. p.places.items };
 }
 
 impl Cells {
@@ -60,7 +60,7 @@ impl Cells {
         let added = added_by(entry);
         make_room_for_all(self.cells.as_mut_slice(), added)?;
         Ok(Prepared {
-            copies: copies_of_all(alloc, added)?,
+            places: places_of_all(alloc, added)?,
         })
     }
 
@@ -81,7 +81,7 @@ impl Cells {
             first,
             second,
             added_by(entry),
-            prepared.copies,
+            prepared.places,
         );
     }
 }
@@ -145,18 +145,18 @@ fn make_room(cells: &mut [Cell], added: &Named, n: usize) -> Result<(), AllocErr
 }
 
 // Places of each of the clauses, one for each of its variables.
-fn copies_of_all(alloc: Global, added: &[Named]) -> Result<Vec<Copies>, AllocError>
+fn places_of_all(alloc: Global, added: &[Named]) -> Result<Vec<Places>, AllocError>
     ensures { IfOk result (λ ps. ps.items ≡ map (λ c. map (λ v. c.clause) (variables_after 0 c.clause)) added.now) }
 {
     let mut all = Vec::with_capacity(alloc, added.len())?;
     for named in added {
-        all.push(copies_of(alloc, &named.clause)?)?;
+        all.push(places_of_clause(alloc, &named.clause)?)?;
     }
     Ok(all)
 }
 
 // Places of the clause, one for each of its variables.
-fn copies_of(alloc: Global, clause: &Clause) -> Result<Copies, AllocError>
+fn places_of_clause(alloc: Global, clause: &Clause) -> Result<Places, AllocError>
     ensures { IfOk result (λ ps. ps ≡ map (λ v. clause.now) (variables_after 0 clause.now)) }
 {
     let first = Place::new(alloc, clause.again()?)?;
@@ -164,7 +164,7 @@ fn copies_of(alloc: Global, clause: &Clause) -> Result<Copies, AllocError>
     for _var in Variables::of(clause) {
         places.push(first.again()?)?;
     }
-    Ok(Copies { places })
+    Ok(Places { list: places })
 }
 
 // Takes the clauses of two lists out of the cells, and puts those of a third one in.
@@ -173,7 +173,7 @@ fn change(
     first: &[Named],
     second: &[Named],
     added: &[Named],
-    copies: Vec<Copies>,
+    places: Vec<Places>,
 )
     requires ascending { IsAscending (variables_of cells.old) }
     requires gone_within { All (λ c. AreOver (variables_of cells.old) c.clause) (first.now ++ second.now) }
@@ -182,12 +182,12 @@ fn change(
     requires above { All (λ cell. All (λ c. All (λ n. c.number < n.number) added.now) cell.clauses) cells.old }
     requires rising { IsAscending (numbers_of added.now) }
     requires room { All (λ cell. length (occurrences added.now cell.variable) ≤ cell.spare) cells.old }
-    requires places { copies.items ≡ map (λ c. map (λ v. c.clause) (variables_after 0 c.clause)) added.now }
+    requires places { places.items ≡ map (λ c. map (λ v. c.clause) (variables_after 0 c.clause)) added.now }
     ensures { Each (IsChanged (first.now ++ second.now) added.now) cells.old cells.new }
 {
     remove_all(cells, first);
     remove_all(cells, second);
-    insert_all(cells, added, copies);
+    insert_all(cells, added, places);
 }
 
 // Takes the clauses out of the cells of their variables.
@@ -216,34 +216,34 @@ fn remove_everywhere(cells: &mut [Cell], gone: &Named)
 }
 
 // Puts the clauses into the cells of their variables, each by its places.
-fn insert_all(cells: &mut [Cell], added: &[Named], copies: Vec<Copies>)
+fn insert_all(cells: &mut [Cell], added: &[Named], places: Vec<Places>)
     requires ascending { IsAscending (variables_of cells.old) }
     requires within { All (λ c. AreOver (variables_of cells.old) c.clause) added.now }
     requires above { All (λ cell. All (λ c. All (λ n. c.number < n.number) added.now) cell.clauses) cells.old }
     requires rising { IsAscending (numbers_of added.now) }
     requires room { All (λ cell. length (occurrences added.now cell.variable) ≤ cell.spare) cells.old }
-    requires places { copies.items ≡ map (λ c. map (λ v. c.clause) (variables_after 0 c.clause)) added.now }
+    requires places { places.items ≡ map (λ c. map (λ v. c.clause) (variables_after 0 c.clause)) added.now }
     ensures { Each (IsWith added.now) cells.old cells.new }
 {
-    let mut left = copies.into_iter();
+    let mut left = places.into_iter();
     for named in added {
-        let Some(copies) = left.next() else {
+        let Some(places) = left.next() else {
             unreachable!()
         };
-        insert_everywhere(cells, named, copies);
+        insert_everywhere(cells, named, places);
     }
 }
 
 // Puts the clause into the cells of its variables, by one of its places for each.
-fn insert_everywhere(cells: &mut [Cell], added: &Named, copies: Copies)
+fn insert_everywhere(cells: &mut [Cell], added: &Named, places: Places)
     requires ascending { IsAscending (variables_of cells.old) }
     requires within { AreOver (variables_of cells.old) added.now.clause }
     requires above { All (λ cell. All (λ c. c.number < added.now.number) cell.clauses) cells.old }
     requires room { All (λ cell. IsTrue (has_variable cell.variable added.now.clause) → 0 < cell.spare) cells.old }
-    requires places { copies ≡ map (λ v. added.now.clause) (variables_after 0 added.now.clause) }
+    requires places { places ≡ map (λ v. added.now.clause) (variables_after 0 added.now.clause) }
     ensures { Each (IsWith (added.now ∷ [])) cells.old cells.new }
 {
-    let mut left = copies.places;
+    let mut left = places.list;
     for var in Variables::of(&added.clause) {
         let Some(place) = left.pop() else {
             unreachable!()

@@ -45,7 +45,7 @@ pub(crate) fn empty_cells(alloc: Global, vars: u32, counts: &[u32]) -> Result<Ve
     Ok(cells)
 }
 
-// Enters the clause in the cells of its variables, by one place for each. There is room, so the cells don't grow.
+// Enters the clause in the cells of its variables, by one place for each. The count should have made the room; no contract says so.
 pub(crate) fn enter(
     alloc: Global,
     cells: &mut [Cell],

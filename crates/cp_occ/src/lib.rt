@@ -1,4 +1,7 @@
 //! Clauses that are shared, and for each variable the list of the clauses that have it.
+//!
+//! A layer above may rely on this: `Cells::of_formula` gives each variable's cell just the clauses that have it, and `apply` leaves
+//! in each cell what `specs/Changes` says of the entry (`lists_after`); all its memory is taken by `prepare`.
 #![tactic(auto)]
 
 mod cell;

@@ -56,7 +56,8 @@ fn play_all<R: Threads + Sync, G: Gate + Sync>(
     Ok(seats)
 }
 
-/// Lets `opts.workers` workers, 1 to 64, work for `opts.rounds` rounds, each in a thread of its own, and joins them.
+/// Lets `opts.workers` workers, 1 to 64, work for `opts.rounds` rounds, each in a thread of its own where one can be made, and joins
+/// them.
 ///
 /// In a round the workers draw each variable once between them. After a round in which a shift stopped no further one begins. It may
 /// wait for its threads, so its return isn't promised. The error comes only for want of memory; then all is dropped.

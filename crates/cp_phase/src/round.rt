@@ -1,4 +1,4 @@
-//! One round: every worker works a shift, in a thread of its own.
+//! One round: every worker works a shift, each in a thread of its own where one can be made.
 ghost use Rattle.std.specs.Prelude.{◌≡◌, ◌≢◌, ℕ, ◌+◌, ◌<◌, ◌≤◌, ◌++◌, List, [], map, length, IfOk, OnOk, MatchBool, Some, None, vec_capacity, slice_index_or};
 ghost use Rattle.std.specs.List.{All};
 ghost use Rattle.cp_worker.specs.declared.lists.WorkerShift.{WorkerShift};

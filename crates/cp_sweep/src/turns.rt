@@ -153,7 +153,7 @@ fn turn(alloc: Global, state: &mut Sweeping) -> Result<Option<Stop>, AllocError>
             state.touched.remove(state.mark as usize);
             Ok(None)
         }
-        Some(entry) => post(alloc, state, entry),
+        Some(entry) => post_found(alloc, state, entry),
     }
 }
 
@@ -174,7 +174,7 @@ fn search_at(alloc: Global, state: &Sweeping) -> Result<Option<Entry>, AllocErro
 
 // Lets the cells follow the entry that the search at the mark gave, and posts it, unless its new clause has no number. All
 // memory is taken before anything changes, and a legal entry whose numbers fit is posted.
-fn post(alloc: Global, state: &mut Sweeping, entry: Entry) -> Result<Option<Stop>, AllocError>
+fn post_found(alloc: Global, state: &mut Sweeping, entry: Entry) -> Result<Option<Stop>, AllocError>
     requires cells { AreCellsOf (current state.old.book) state.old.cells.items }
     requires goes_on { stop_in state.old.book ≡ None }
     requires found { first (current state.old.book) state.old.book.rules state.old.mark ≡ Some (entry_of entry) }

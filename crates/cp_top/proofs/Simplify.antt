@@ -8,6 +8,7 @@ use Rattle.cp_io.specs.declared.role.Role.TheVariants.{Cnf, Reduced, Stack, Proo
 use Rattle.cp_io.specs.declared.role.Way.TheVariants.{Out}
 use Rattle.cp_io.specs.Port.{Port, Ports, AtRole, Writes, NothingBound, Rose}
 use Rattle.cp_io.proofs.RoleCases.{kept}
+use Rattle.cp_logic.specs.declared.settings.Form.{Form}
 use Rattle.cp_logic.specs.declared.settings.Stop.{Stop}
 use Rattle.cp_logic.specs.Assignments.{Pair}
 use Rattle.cp_logic.specs.Formulas.{Formula}
@@ -16,12 +17,10 @@ use Rattle.cp_logic.specs.Pairs.{pairs_of}
 use Rattle.cp_logic.specs.Slots.{Held}
 use Rattle.cp_dimacs.specs.Cnf.{cnf_text}
 use Rattle.cp_drat.specs.Log.{log_of}
-use Rattle.cp_drat.specs.declared.form.Form.TheVariants.{Text}
 use Rattle.cp_drat.specs.Text.{log_text}
 use Rattle.cp_stack.specs.Text.{stack_text}
 use Rattle.cp_summary.specs.declared.sizes.Sizes.{Sizes}
 use Rattle.cp_summary.specs.Text.{sizes_of}
-use Rattle.cp_words.specs.declared.words.Form.{Form}
 use Rattle.cp_words.specs.declared.words.UsageKind.TheVariants as kind
 use Rattle.cp_words.specs.Words.{Simplify, simplify_options}
 use Rattle.cp_worker.specs.declared.lists.WorkerShift.{WorkerShift}
@@ -31,7 +30,6 @@ use Rattle.cp_top.specs.declared.outcome.Outcome.TheVariants.{Done, Extended, Ge
 use Rattle.cp_top.specs.declared.outcome.Refusal.{Refusal}
 use Rattle.cp_top.specs.declared.outcome.Refusal.TheVariants.{Usage, OpenFault, ReadFault, TooLarge, BadInput, BadStack, BadModel, NoModel, WriteFault, NoMemory}
 use Rattle.cp_top.specs.declared.work.Simplified.{Simplified}
-use Rattle.cp_top.specs.Options.{form_for}
 use Rattle.cp_top.specs.Status.{status_of}
 use Rattle.cp_top.specs.Bindings.{binding_of, way_of, JustBound, BoundSoFar, FailedToBind}
 use Rattle.cp_top.specs.Texts.{Written, write, is_written, NothingGrew, HaveGrown, HaveStopped, OnlyWrites, WrittenSoFar, FailedToWrite}
@@ -45,7 +43,7 @@ use Rattle.cp_top.proofs.Simplifying.{swept-simplified}
 -- the texts, one after the other
 module _ (form : Form) (variables : ℕ) (sizes : Sizes) (posts : List Post) (pairs : List Pair) (left : Formula) (stopped : Option Stop) where
   abbrev pub log-text : List ℕ
-  log-text = log_text (form_for form) (log_of posts)
+  log-text = log_text form (log_of posts)
 
   abbrev pub stack-text' : List ℕ
   stack-text' = stack_text variables pairs

@@ -2,22 +2,20 @@
 use Rattle.std.specs.Prelude.{ℕ, List, [], ◌∷◌, Bool, Option, length}
 use Rattle.cp_io.specs.declared.role.Role.TheVariants.{Cnf, Reduced, Stack, Proof, Model, Full, Summary}
 use Rattle.cp_io.specs.declared.role.Way.TheVariants.{In, Out}
+use Rattle.cp_logic.specs.declared.settings.Form.{Form}
 use Rattle.cp_logic.specs.declared.settings.Stop.{Stop}
 use Rattle.cp_logic.specs.Assignments.{Pair}
 use Rattle.cp_logic.specs.Formulas.{Formula}
 use Rattle.cp_logic.specs.Journals.{Post}
 use Rattle.cp_dimacs.specs.Cnf.{cnf_text}
-use Rattle.cp_drat.specs.declared.form.Form.TheVariants.{Text}
 use Rattle.cp_drat.specs.Log.{log_of}
 use Rattle.cp_drat.specs.Text.{log_text}
 use Rattle.cp_extend.specs.ModelText.{model_text}
 use Rattle.cp_stack.specs.Text.{stack_text}
 use Rattle.cp_summary.specs.declared.sizes.Sizes.{Sizes}
 use Rattle.cp_summary.specs.Text.{summary_text}
-use Rattle.cp_words.specs.declared.words.Form.{Form}
 use Rattle.cp_words.specs.Words.{Simplify, Extend, Generate}
 use Rattle.cp_top.specs.Bindings.{Binding, bind}
-use Rattle.cp_top.specs.Options.{form_for}
 use Rattle.cp_top.specs.Status.{status_of}
 use Rattle.cp_top.specs.Texts.{Written, write}
 
@@ -40,7 +38,7 @@ summary_of sizes posts pairs left stopped = summary_text sizes left posts (lengt
 -- what `simplify` writes, in its order: the log of the posts, the pairs over so many variables, what is left, and the summary
 abbrev pub simplify_texts : Form → ℕ → Sizes → List Post → List Pair → Formula → Option Stop → List Written
 simplify_texts form variables sizes posts pairs left stopped =
-    write Proof (log_text (form_for form) (log_of posts)) ∷ (write Stack (stack_text variables pairs)
+    write Proof (log_text form (log_of posts)) ∷ (write Stack (stack_text variables pairs)
     ∷ (write Reduced (cnf_text left) ∷ (write Summary (summary_of sizes posts pairs left stopped) ∷ [])))
 
 -- what `extend` writes: the model

@@ -7,7 +7,6 @@ ghost use Rattle.cp_io.specs.Port.{AtRole, Writes};
 ghost use Rattle.cp_logic.specs.Pairs.{pairs_of};
 ghost use Rattle.cp_words.specs.Answers.{simplify_seen};
 ghost use Rattle.cp_top.specs.Commands.{summary_of};
-ghost use Rattle.cp_top.specs.Options.{form_for};
 ghost use Rattle.cp_top.specs.Status.{status_of};
 ghost use Rattle.cp_top.specs.Steps.{Finishes, texts_of};
 ghost use Rattle.cp_top.specs.Texts.{WritesInTurn};
@@ -15,7 +14,7 @@ ghost use Rattle.cp_top.specs.Texts.{WritesInTurn};
 use crate::outcome::{Outcome, Refusal};
 use crate::work::Simplified;
 use cp_dimacs::print_cnf;
-use cp_drat::{Form, print_log};
+use cp_drat::print_log;
 use cp_io::{Desk, Failed, Role};
 use cp_logic::Formula;
 use cp_stack::print_stack;
@@ -70,7 +69,7 @@ fn write_result<D: Desk>(
     requires summary { (D.port desk.old Summary).way ≡ Some Out }
     ensures { WritesInTurn (texts_of (simplify_seen options.now) sizes swept.now) result (D.port desk.old) (D.port desk.new) }
 {
-    if print_log(desk, &swept.journal, form_for(options.form)).is_err() {
+    if print_log(desk, &swept.journal, options.form).is_err() {
         return Err(Role::Proof);
     }
     if print_stack(desk, &swept.stack).is_err() {
@@ -99,16 +98,6 @@ pub(crate) fn print_counts<D: Desk>(desk: &mut D, sizes: Sizes, swept: &Swept) -
         swept.stopped,
         status_of_formula(&swept.formula),
     )
-}
-
-// The form of the proof that is asked for.
-fn form_for(form: cp_words::Form) -> Form
-    ensures { result ≡ form_for form }
-{
-    match form {
-        cp_words::Form::Text => Form::Text,
-        cp_words::Form::Binary => Form::Binary,
-    }
 }
 
 fn status_of_formula(formula: &Formula) -> u8

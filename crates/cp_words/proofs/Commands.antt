@@ -9,10 +9,10 @@ use Rattle.clap.specs.declared.parser.matches.ArgMatches.{ArgMatches}
 use Rattle.cp_words.specs.Commands.{HasGenerateNumbers, HasSimplifyNumbers, IsOption, command, extend_command, generate_command, number_option, numbers_32, numbers_64, simplify_command, taken, text_at}
 use Rattle.cp_words.specs.Words.{extend_at, extend_found, extend_roles, given_by, is_command, simplify_at, simplify_by, simplify_found, simplify_roles, with_found}
 use Rattle.cp_logic.specs.declared.settings.Choice.{Choice}
+use Rattle.cp_logic.specs.declared.settings.Form.{Form}
 use Rattle.cp_words.specs.Answers.{Answers}
 use Rattle.cp_words.specs.Letters.{choice_of, form_of}
 use Rattle.cp_words.specs.Names.{some_clash}
-use Rattle.cp_words.specs.declared.words.Form.{Form}
 use Rattle.cp_words.specs.declared.words.WordsRefusal.{WordsRefusal}
 use Rattle.cp_words.specs.declared.words.WordsRefusal.TheVariants as refusal
 use Rattle.cp_words.specs.declared.words.UsageKind.{UsageKind}

@@ -3,8 +3,8 @@ use Rattle.std.specs.Prelude.{◌==◌, ◌&&◌, ℕ, Bool, not, List, Option, 
 use Rattle.std.specs.List.{list_all, list_any}
 use Rattle.std.specs.Str.{bytes_eq}
 use Rattle.cp_logic.specs.declared.settings.Choice.{Choice}
-use Rattle.cp_words.specs.declared.words.Form.{Form}
-use Rattle.cp_words.specs.declared.words.Form.TheVariants.{Text, Binary}
+use Rattle.cp_logic.specs.declared.settings.Form.{Form}
+use Rattle.cp_logic.specs.declared.settings.Form.TheVariants.{Text, Binary}
 
 abbrev pub has_letter : ℕ → List ℕ → Bool
 has_letter letter letters = list_any (λ x. x == letter) letters

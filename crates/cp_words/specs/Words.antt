@@ -4,8 +4,8 @@ use Rattle.std.specs.Prelude.{ℕ, Bool, true, false, List, [], ◌∷◌, Optio
 use Rattle.std.specs.Str.{bytes_eq}
 use Rattle.clap.specs.Words.{App, Row, Text}
 use Rattle.cp_logic.specs.declared.settings.Choice.{Choice}
+use Rattle.cp_logic.specs.declared.settings.Form.{Form}
 use Rattle.cp_logic.specs.declared.settings.Opts.{Opts}
-use Rattle.cp_words.specs.declared.words.Form.{Form}
 use Rattle.cp_words.specs.declared.words.UsageKind.{UsageKind}
 use Rattle.cp_words.specs.declared.words.UsageKind.TheVariants as kind
 use Rattle.cp_words.specs.Commands.{extend_command, generate_command, number_at, simplify_command, taken, text_at}

@@ -13,8 +13,8 @@ use crate::words::{ExtendOptions, UsageKind, WordsRefusal, is_command};
 use clap::{ArgMatches, Command};
 use std::alloc::{AllocError, Global};
 
-/// What a run of `extend` is asked for by the words of a command line, the program's name left out. No memory is asked for where
-/// the first word is not the command; the kinds of refusal are `Command`, `Words` and `Names`.
+/// What a run of `extend` is asked for by the words of a command line, the program's name left out. Want of memory isn't answered
+/// where the first word is not the command; the kinds of refusal are `Command`, `Words` and `Names`.
 pub fn read_extend_words<'a>(
     alloc: Global,
     words: &'a [String],

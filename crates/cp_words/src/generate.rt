@@ -11,8 +11,8 @@ use crate::words::{GenerateOptions, UsageKind, WordsRefusal, is_command};
 use clap::{ArgMatches, Command};
 use std::alloc::{AllocError, Global};
 
-/// What a run of `generate` is asked for by the words of a command line, the program's name left out. No memory is asked for where
-/// the first word is not the command; the kinds of refusal are `Command` and `Words`.
+/// What a run of `generate` is asked for by the words of a command line, the program's name left out. Want of memory isn't answered
+/// where the first word is not the command; the kinds of refusal are `Command` and `Words`.
 pub fn read_generate_words<'a>(
     alloc: Global,
     words: &'a [String],

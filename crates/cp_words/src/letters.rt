@@ -4,8 +4,7 @@ ghost use Rattle.std.specs.Prelude.{◌≡◌};
 ghost use Rattle.std.specs.List.{list_all};
 ghost use Rattle.cp_words.specs.Letters.{choice_of, form_of, is_technique};
 
-use crate::words::Form;
-use cp_logic::Choice;
+use cp_logic::{Choice, Form};
 
 /// The techniques that the letters choose, or `None` where there is no letter, or one that is not that of a technique.
 pub(crate) fn choice_of(letters: &str) -> Option<Choice>

@@ -1,8 +1,8 @@
 //! The words of a command line, read by clap.
 //!
 //! The layer above may rely on this: `read_simplify_words`, `read_extend_words` and `read_generate_words` give the options that
-//! `specs/Words` says of the words, or the kind of refusal that it says. Want of memory is the one other answer, and no memory is
-//! asked for where the first word is not the command.
+//! `specs/Words` says of the words, or the kind of refusal that it says. Want of memory is the one other answer, and it isn't
+//! answered where the first word is not the command.
 #![tactic(auto)]
 
 mod command;
@@ -19,5 +19,5 @@ pub use extend::read_extend_words;
 pub use generate::read_generate_words;
 pub use simplify::read_simplify_words;
 pub use words::{
-    ExtendOptions, Form, GenerateOptions, SimplifyOptions, UsageKind, WordsRefusal, is_command,
+    ExtendOptions, GenerateOptions, SimplifyOptions, UsageKind, WordsRefusal, is_command,
 };

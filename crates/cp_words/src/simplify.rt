@@ -17,8 +17,8 @@ use clap::{ArgMatches, Command};
 use cp_logic::{Choice, Opts, Rules};
 use std::alloc::{AllocError, Global};
 
-/// What a run of `simplify` is asked for by the words of a command line, the program's name left out. No memory is asked for where
-/// the first word is not the command. Of the other kinds of refusal the first in the order of `UsageKind` is told.
+/// What a run of `simplify` is asked for by the words of a command line, the program's name left out. Want of memory isn't answered
+/// where the first word is not the command. Of the other kinds of refusal the first in the order of `UsageKind` is told.
 pub fn read_simplify_words<'a>(
     alloc: Global,
     words: &'a [String],

@@ -1,7 +1,7 @@
 //! Words with known answers, read with ample memory.
 
 use super::*;
-use cp_logic::{Choice, Opts, Rules};
+use cp_logic::{Choice, Form, Opts, Rules};
 use std::alloc::Global;
 use std::test::Fail;
 

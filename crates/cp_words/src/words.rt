@@ -3,7 +3,7 @@
 ghost use Rattle.std.specs.Prelude.{◌≡◌, map, string_bytes};
 ghost use Rattle.cp_words.specs.Words.{is_command};
 
-use cp_logic::Opts;
+use cp_logic::{Form, Opts};
 
 /// Why words are refused.
 #[derive(Clone, Copy, Debug, PartialEq, Eq)]
@@ -18,13 +18,6 @@ pub enum UsageKind {
     Form,
     /// Two roles have one name.
     Names,
-}
-
-/// The form of a proof.
-#[derive(Clone, Copy, Debug, PartialEq, Eq)]
-pub enum Form {
-    Text,
-    Binary,
 }
 
 /// Why there are no options.

@@ -8,11 +8,11 @@ use cp_logic::Stop;
 pub enum AtAnswer {
     /// Nothing applies at the candidate any more.
     Settled { commits: Positions },
-    /// Each try of its neighbourhood met a lock that is held, last that of `var` by seat `by`.
+    /// The last try of its neighbourhood met the lock of `var`, held by seat `by`.
     Busy { var: u32, by: u32 },
     /// Its neighbourhood has `count` variables, more than the limit.
     Wide { count: u32 },
-    /// Each try of the turn found it held, last by seat `by`.
+    /// The last try of the turn for its last entry found it held by seat `by`.
     TurnHeld { by: u32, commits: Positions },
     /// The run has stopped.
     Stopped { stop: Stop, commits: Positions },

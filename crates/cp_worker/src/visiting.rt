@@ -140,7 +140,7 @@ fn commit_all(
 {
     let mut commits = Positions::new(alloc);
     'commits: while let Some(entry) = search(alloc, hood.centre(), rules, 1)? {
-        if let Err(answer) = post(alloc, yard, seat, hood, entry, round, &mut commits) {
+        if let Err(answer) = commit_listed(alloc, yard, seat, hood, entry, round, &mut commits) {
             return refused(answer, commits);
         }
     }
@@ -148,7 +148,7 @@ fn commit_all(
 }
 
 // Posts the entry and lists its position. All memory is taken before the post, so that no post goes unlisted.
-fn post(
+fn commit_listed(
     alloc: Global,
     yard: &Yard,
     seat: &mut Seat,

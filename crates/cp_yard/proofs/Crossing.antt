@@ -16,10 +16,10 @@ use Rattle.cp_yard.specs.contracts.seat.Seat as seats
 use Rattle.cp_yard.specs.contracts.yard.Yard as yards
 
 clause_send : IsSend clauses.the_row
-clause_send = search (sendable, crosses) depth 40
+clause_send = search (sendable, crosses) depth 60 fits 20000
 
 clause_sync : IsSync clauses.the_row
-clause_sync = search (sendable, crosses) depth 40
+clause_sync = search (sendable, crosses) depth 60 fits 20000
 
 cell_send : IsSend a_cell.the_row
 cell_send = search (sendable, crosses, clause_send) depth 40

@@ -4,7 +4,7 @@
 //! with one post more, of variables whose locks it holds. So a layer above may rely on this, whatever the order of the seats'
 //! steps (`specs/Rule.antt`): there is one journal, which is legal from the book's first formula; a cell that is got has the
 //! variable's clauses after it, and stays so until this seat's own post; the posts of each seat's number are those of the
-//! journal; and whom a try met had tried before. `close` gives the book, its cells and that account.
+//! journal; and whom a try met is another seat, which got that lock or the turn. `close` gives the book, its cells and that account.
 #![tactic(auto)]
 
 mod item;

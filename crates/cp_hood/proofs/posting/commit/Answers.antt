@@ -48,19 +48,19 @@ returns-then-is_err-clause-holds c =
     ended-holds c.args.seat.now.view c.take_turn.new.seat.view c.in-Ok.book c.args.tries g.0 g.1 g.2 c.in-Ok.ensures.base
     c.end_turn-then-is_err.new.seat.view c.end_turn-then-is_err.ensures.seat (entry_of c.args.entry) c.args.hood.now c.args.round c.requires.holds
 
-pub post-requires-clause-clauses : goal.post-requires-clause-clauses
-post-requires-clause-clauses c =
+pub post_under_turn-requires-clause-clauses : goal.post_under_turn-requires-clause-clauses
+post_under_turn-requires-clause-clauses c =
     let b = c.in-Ok.book in let v = c.args.seat.now.view in let cells = c.args.hood.now.cells in
     subst (λ (z : BookView). AreOccurrences (current z).clauses cells) (sym c.prepare.ensures.same)
     (AreOccurrences-held (current b).clauses cells v.held c.is_hood.ensures.ascending c.requires.holds.held c.in-Ok.ensures.held)
 
-pub post-requires-clause-at : goal.post-requires-clause-at
-post-requires-clause-at c =
+pub post_under_turn-requires-clause-at : goal.post_under_turn-requires-clause-at
+post_under_turn-requires-clause-at c =
     let e = entry_of c.args.entry in
     ap (is_at c.args.hood.now.centre) c.numbered-entry.ensures ∙ is_at-numbered c.args.hood.now.centre c.next.result e ∙ c.requires.legal.at
 
-pub post-requires-clause-taken : goal.post-requires-clause-taken
-post-requires-clause-taken c =
+pub post_under_turn-requires-clause-taken : goal.post_under_turn-requires-clause-taken
+post_under_turn-requires-clause-taken c =
     let b = c.in-Ok.book in let v = c.args.seat.now.view in let h = c.args.hood.now in let e = entry_of c.args.entry in
     let numbers : entry_of c.numbered-entry.result ≡ numbered (current b).next e = c.numbered-entry.ensures ∙ ap (λ n. numbered n e) c.next.ensures in
     let rules = ap (λ (f : Base). f.rules) (c.in-Ok.ensures.base ∙ c.requires.base) in
@@ -69,26 +69,26 @@ post-requires-clause-taken c =
     c.requires.legal rules c.prepare.ensures.same numbers c.in_default.ensures.open_still c.in_default.ensures.unspent c.in_default.ensures.numbers
     (on-ok c.prepare.result (sym c.is_err.ensures.value ∙ c.if-is_err.false) c.prepare.ensures.ok)
 
-pub post-requires-clause-places : goal.post-requires-clause-places
-post-requires-clause-places c =
+pub post_under_turn-requires-clause-places : goal.post_under_turn-requires-clause-places
+post_under_turn-requires-clause-places c =
     c.requires.prepared ∙ sym (places_of-numbered c.next.result (entry_of c.args.entry)) ∙ ap places_of (sym c.numbered-entry.ensures)
 
-pub post-requires-clause-room : goal.post-requires-clause-room
-post-requires-clause-room c =
+pub post_under_turn-requires-clause-room : goal.post_under_turn-requires-clause-room
+post_under_turn-requires-clause-room c =
     subst (HasRoom c.args.hood.now.cells) (sym c.numbered-entry.ensures) (HasRoom-numbered c.next.result (entry_of c.args.entry) c.args.hood.now.cells c.requires.room)
 
 pub returns-clause-commit : goal.returns-clause-commit
 returns-clause-commit c =
     let g = c.in-Ok.ensures.got in let b = c.in-Ok.book in let e = entry_of c.args.entry in
     posted-commit c.args.seat.now.view c.take_turn.new.seat.view b c.args.tries g.0 g.1 g.2 c.in-Ok.ensures.base
-    c.post.new.seat.view c.prepare.new.self e (entry_of c.numbered-entry.result) c.args.hood.now c.post.new.hood c.args.round
-    (ap (λ (z : BookView). z.posts) c.prepare.ensures.same) (c.numbered-entry.ensures ∙ ap (λ n. numbered n e) c.next.ensures) c.post.ensures.seat c.post.ensures.hood
-    c.post.result c.post.ensures.position
+    c.post_under_turn.new.seat.view c.prepare.new.self e (entry_of c.numbered-entry.result) c.args.hood.now c.post_under_turn.new.hood c.args.round
+    (ap (λ (z : BookView). z.posts) c.prepare.ensures.same) (c.numbered-entry.ensures ∙ ap (λ n. numbered n e) c.next.ensures) c.post_under_turn.ensures.seat c.post_under_turn.ensures.hood
+    c.post_under_turn.result c.post_under_turn.ensures.position
 
 pub returns-clause-holds : goal.returns-clause-holds
 returns-clause-holds c =
     let g = c.in-Ok.ensures.got in let b = c.in-Ok.book in let e = entry_of c.args.entry in
     posted-holds c.args.seat.now.view c.take_turn.new.seat.view b c.args.tries g.0 g.1 g.2 c.in-Ok.ensures.base
-    c.post.new.seat.view c.prepare.new.self e (entry_of c.numbered-entry.result) c.args.hood.now c.post.new.hood c.args.round
-    (ap (λ (z : BookView). z.posts) c.prepare.ensures.same) (c.numbered-entry.ensures ∙ ap (λ n. numbered n e) c.next.ensures) c.post.ensures.seat c.post.ensures.hood
+    c.post_under_turn.new.seat.view c.prepare.new.self e (entry_of c.numbered-entry.result) c.args.hood.now c.post_under_turn.new.hood c.args.round
+    (ap (λ (z : BookView). z.posts) c.prepare.ensures.same) (c.numbered-entry.ensures ∙ ap (λ n. numbered n e) c.next.ensures) c.post_under_turn.ensures.seat c.post_under_turn.ensures.hood
     c.requires.holds

@@ -13,7 +13,7 @@ loop-var-init c =
       going = subst (Going (IsWith (c.args.added.now ∷ [])) c.args.added.now.clause c.args.cells.now c.args.cells.now) (sym items)
           (Going-start (IsWith (c.args.added.now ∷ [])) c.args.added.now.clause c.args.cells.now c.requires.ascending c.of-var-items.ensures.ascending c.of-var-items.ensures.literals c.requires.within
           (λ k d h f. same-with c.args.added.now (get_or c.args.cells.now k d) f));
-      places = c.copies.view_is ∙ c.requires.places ∙ ap (map (λ v. c.args.added.now.clause)) (sym items);
+      places = c.places.view_is ∙ c.requires.places ∙ ap (map (λ v. c.args.added.now.clause)) (sym items);
     }
 
 pub index_of-index-requires-clause-ascending : goal.index_of-index-requires-clause-ascending

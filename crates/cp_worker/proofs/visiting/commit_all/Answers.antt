@@ -23,21 +23,21 @@ commits-init c = record {
   going = begins c.args.seat.now.view c.args.hood.now.centre c.args.round (centre_clauses c.args.hood.now) c.new-commits.result.items c.new-commits.ensures;
 }
 
-pub post-requires-clause-legal : goal.post-requires-clause-legal
-post-requires-clause-legal c =
+pub commit_listed-requires-clause-legal : goal.commit_listed-requires-clause-legal
+commit_listed-requires-clause-legal c =
     legal-found c.args.yard.now.base.rules c.commits.hood (entry_of c.in-Some.entry)
     (found-at c.commits.hood c.centre.result.now c.args.rules.now c.args.yard.now.base.rules c.in_ok-entry.field-0 c.centre.ensures.variable c.centre.ensures.clauses c.requires.rules c.in_ok-entry.ensures
     ∙ ap (option_map entry_of) c.in-Some.is)
 
 pub commits-preserved : goal.commits-preserved
 commits-preserved c =
-    let i = c.commits.invariant in let k = c.in_default-post.ensures.post in
+    let i = c.commits.invariant in let k = c.in_default-commit_listed.ensures.post in
     record {
-      table = c.in_default-post.ensures.table ∙ i.table;
-      holds = c.in_default-post.ensures.holds;
+      table = c.in_default-commit_listed.ensures.table ∙ i.table;
+      holds = c.in_default-commit_listed.ensures.holds;
       centre = k.3.hood.centre ∙ i.centre;
-      going = goes_on c.args.seat.now.view c.commits.seat.view c.post.new.seat.view c.args.hood.now.centre c.args.round (centre_clauses c.args.hood.now) c.args.yard.now.base.rules
-          c.commits.hood c.post.new.hood (entry_of c.in-Some.entry) c.commits.commits.items c.post.new.commits.items k.0 k.1 i.centre
+      going = goes_on c.args.seat.now.view c.commits.seat.view c.commit_listed.new.seat.view c.args.hood.now.centre c.args.round (centre_clauses c.args.hood.now) c.args.yard.now.base.rules
+          c.commits.hood c.commit_listed.new.hood (entry_of c.in-Some.entry) c.commits.commits.items c.commit_listed.new.commits.items k.0 k.1 i.centre
           (found-at c.commits.hood c.centre.result.now c.args.rules.now c.args.yard.now.base.rules c.in_ok-entry.field-0 c.centre.ensures.variable c.centre.ensures.clauses c.requires.rules c.in_ok-entry.ensures
           ∙ ap (option_map entry_of) c.in-Some.is)
           i.going k.2 k.3;
@@ -45,8 +45,8 @@ commits-preserved c =
 
 pub commits-smaller : goal.commits-smaller
 commits-smaller c =
-    let k = c.in_default-post.ensures.post in
-    centre-smaller c.args.yard.now.base.rules (left_by c.commits.seat.view.base k.3.before).next (entry_of c.in-Some.entry) c.commits.hood c.post.new.hood
+    let k = c.in_default-commit_listed.ensures.post in
+    centre-smaller c.args.yard.now.base.rules (left_by c.commits.seat.view.base k.3.before).next (entry_of c.in-Some.entry) c.commits.hood c.commit_listed.new.hood
     (found-at c.commits.hood c.centre.result.now c.args.rules.now c.args.yard.now.base.rules c.in_ok-entry.field-0 c.centre.ensures.variable c.centre.ensures.clauses c.requires.rules c.in_ok-entry.ensures
     ∙ ap (option_map entry_of) c.in-Some.is)
     k.3.hood
@@ -60,8 +60,8 @@ returns-in-Err-clause-visit c =
     let at_x : IsTrue (is_at x e) = subst (λ z. IsTrue (is_at z e)) i.centre (legal-found c.args.yard.now.base.rules c.commits.hood e found).at in (
       i.going.noted ++ k.0,
       i.going.posted,
-      refused-goes v c.commits.seat.view c.post.new.seat.view x c.args.round cs (centre_clauses c.commits.hood) c.commits.commits.items k.0 k.1 i.going k.2 k.4.0,
-      λ limit before more. IfOk-weaker c.refused.result (λ a. (commits_of a ≡ c.post.new.commits.items) × IsCauseOf c.in-Err.answer a)
+      refused-goes v c.commits.seat.view c.commit_listed.new.seat.view x c.args.round cs (centre_clauses c.commits.hood) c.commits.commits.items k.0 k.1 i.going k.2 k.4.0,
+      λ limit before more. IfOk-weaker c.refused.result (λ a. (commits_of a ≡ c.commit_listed.new.commits.items) × IsCauseOf c.in-Err.answer a)
           (IsVisit v.base v.number x c.args.round limit (before ++ Got x cs ∷ (more ++ (i.going.noted ++ k.0))) i.going.posted)
           (λ a h. refuses v c.commits.seat.view x c.args.round limit cs (centre_clauses c.commits.hood) c.commits.commits.items before more k.0 i.going e c.in-Err.answer a at_x k.4.1 (h.0 ∙ c.in-Err.ensures.same) h.1)
           c.refused.ensures,

@@ -42,19 +42,19 @@ apply-requires-clause-numbers c =
     ap (λ z. length (new_clauses z)) c.numbered-entry.ensures ∙ count-numbered c.next.result (entry_of c.args.entry) in
     subst (λ n. i.formula.formula.next + n ≤ number_limit) (sym same) low
 
-pub apply-requires-clause-copied : goal.apply-requires-clause-copied
-apply-requires-clause-copied c =
+pub apply-requires-clause-seconds : goal.apply-requires-clause-seconds
+apply-requires-clause-seconds c =
     let i = c.self.inside in
-    let ready : IsReady (Some (entry_of c.args.entry)) i.journal.spare i.formula.spare i.stack.pairs.spare i.copies.items =
-    subst (λ o. IsReady o i.journal.spare i.formula.spare i.stack.pairs.spare i.copies.items) (ap (λ (v : BookView). v.prepared) c.self.view_is ∙ c.requires.prepared) c.self.invariant.1 in
-    ap (λ v. v.items) c.replace-copies.ensures.value ∙ ready.3
+    let ready : IsReady (Some (entry_of c.args.entry)) i.journal.spare i.formula.spare i.stack.pairs.spare i.seconds.items =
+    subst (λ o. IsReady o i.journal.spare i.formula.spare i.stack.pairs.spare i.seconds.items) (ap (λ (v : BookView). v.prepared) c.self.view_is ∙ c.requires.prepared) c.self.invariant.1 in
+    ap (λ v. v.items) c.replace-seconds.ensures.value ∙ ready.3
     ∙ sym (ap (λ z. clauses_of (new_clauses z)) c.numbered-entry.ensures ∙ new-numbered c.next.result (entry_of c.args.entry))
 
 pub apply-requires-clause-clauses : goal.apply-requires-clause-clauses
 apply-requires-clause-clauses c =
     let i = c.self.inside in
-    let ready : IsReady (Some (entry_of c.args.entry)) i.journal.spare i.formula.spare i.stack.pairs.spare i.copies.items =
-    subst (λ o. IsReady o i.journal.spare i.formula.spare i.stack.pairs.spare i.copies.items) (ap (λ (v : BookView). v.prepared) c.self.view_is ∙ c.requires.prepared) c.self.invariant.1 in
+    let ready : IsReady (Some (entry_of c.args.entry)) i.journal.spare i.formula.spare i.stack.pairs.spare i.seconds.items =
+    subst (λ o. IsReady o i.journal.spare i.formula.spare i.stack.pairs.spare i.seconds.items) (ap (λ (v : BookView). v.prepared) c.self.view_is ∙ c.requires.prepared) c.self.invariant.1 in
     subst (λ n. n ≤ i.formula.spare) (sym (ap (λ z. length (new_clauses z)) c.numbered-entry.ensures ∙ count-numbered c.next.result (entry_of c.args.entry))) ready.1
 
 pub invariant_of-self : goal.invariant_of-self

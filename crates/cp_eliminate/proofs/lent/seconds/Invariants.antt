@@ -1,5 +1,5 @@
 use Rattle.std.proofs.Common.{◌≡◌, take}
-use Rattle.cp_eliminate.proofs.lent.copies.Given as goal
+use Rattle.cp_eliminate.proofs.lent.seconds.Given as goal
 
 abbrev pub invariant-loop-clause : goal.invariant-loop-clause
 invariant-loop-clause l = l.list.items ≡ take l.clause-index l.clauses

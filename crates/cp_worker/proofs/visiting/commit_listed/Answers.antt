@@ -3,7 +3,7 @@ use Rattle.cp_logic.specs.Views.{entry_of}
 use Rattle.cp_hood.specs.Commits.{post_after}
 use Rattle.cp_worker.proofs.Centres.{HoldsJust-same, legal-same, after-prepared}
 use Rattle.cp_worker.proofs.Commits.{refusal-of}
-use Rattle.cp_worker.proofs.visiting.post.Goals as goal
+use Rattle.cp_worker.proofs.visiting.commit_listed.Goals as goal
 
 pub returns-in_default-clause-holds : goal.returns-in_default-clause-holds
 returns-in_default-clause-holds c = HoldsJust-same c.args.seat.now.view c.args.hood.now c.prepare.new.self c.prepare.ensures.same c.requires.holds

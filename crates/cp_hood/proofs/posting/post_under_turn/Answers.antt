@@ -6,7 +6,7 @@ use Rattle.cp_book.specs.Views.{current}
 use Rattle.cp_hood.proofs.Following.{legal-change, HoldsAll-hood}
 use Rattle.cp_hood.proofs.Turns.{posted-ok}
 use Rattle.cp_hood.proofs.Outcomes.{on-ok, posts-made}
-use Rattle.cp_hood.proofs.posting.post.Goals as goal
+use Rattle.cp_hood.proofs.posting.post_under_turn.Goals as goal
 
 pub apply-requires-clause-change : goal.apply-requires-clause-change
 apply-requires-clause-change c =

@@ -12,7 +12,7 @@ use Rattle.cp_sweep.specs.Marks.{with_marks}
 use Rattle.cp_sweep.specs.Cursor.{touched_by}
 use Rattle.cp_sweep.proofs.Touching.{touched-within}
 use Rattle.cp_sweep.proofs.Posting.{takes, posted-cells, posted-turn, turn_at}
-use Rattle.cp_sweep.proofs.turns.post.Goals as goal
+use Rattle.cp_sweep.proofs.turns.post_found.Goals as goal
 
 pub prepare-requires : goal.prepare-requires
 prepare-requires c = first-no_look (current c.args.state.now.book) c.args.state.now.book.rules c.args.state.now.mark (entry_of c.args.entry) c.requires.found

@@ -1,6 +1,6 @@
 use Rattle.std.proofs.Common.{◌≡◌, ◌++◌, map}
 use Rattle.cp_occ.specs.Cells.{variables_after}
-use Rattle.cp_occ.proofs.changes.copies_of.Given as goal
+use Rattle.cp_occ.proofs.changes.places_of_clause.Given as goal
 
 -- with a place for each variable that is left they would be all
 abbrev pub invariant-loop-var : goal.invariant-loop-var

@@ -1,7 +1,0 @@
-use Rattle.std.proofs.Common.{◌≡◌, take}
-use Rattle.cp_logic.specs.Formulas.{clauses_of}
-use Rattle.cp_book.proofs.changes.copies_of.Given as goal
-
--- those so far are copied
-abbrev pub invariant-loop-named : goal.invariant-loop-named
-invariant-loop-named l = l.copies.items ≡ clauses_of (take l.named-index l.named-items)
