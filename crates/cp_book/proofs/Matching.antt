@@ -6,16 +6,13 @@ use Rattle.cp_logic.specs.Literals.{negated}
 use Rattle.cp_logic.specs.Clauses.{resolvent, IsAscending}
 use Rattle.cp_logic.specs.Legality.{same_literals}
 use Rattle.cp_logic.proofs.Parts.{literals_decides}
-use Rattle.cp_logic.proofs.Merges.{Merging, merge-none, merge-all, merge-left, merge-right, merge-both, within-read, read_same, take-read}
+use Rattle.cp_logic.proofs.Merges.{Merging, merge-all, merge-left, merge-right, merge-both, within-read, read_same, take-read}
 use Rattle.cp_book.proofs.ReadFacts.{take-whole, length-taken, read-behind}
 
 -- the first literals of the clause are those of the merge so far
 pub record Matching (clause : List ℕ) (pivot : ℕ) (left right : List ℕ) (i j k : ℕ) : Type 0 where
   pub within : k ≤ length clause
   pub merging : Merging pivot left right i j (take k clause)
-
-pub match-none : (clause : List ℕ) (p : ℕ) (left right : List ℕ) → Matching clause p left right 0 0 0
-match-none clause p left right = record { within = omega arith; merging = merge-none p left right }
 
 module _ (clause : List ℕ) (p : ℕ) (left right : List ℕ) (i j k d v : ℕ) (within : k ≤ length clause) (g : Merging p left right i j (take k clause ++ v ∷ [])) where
   -- the next literal of the merge is that of the clause

@@ -26,14 +26,6 @@ IsRun-split s (r ∷ rs) qs h = let more = IsRun-split (applied s r) rs qs h.1 i
 
 -- ---- additions
 
-pub with_all-push : (f : Formula) (cs : List (List ℕ)) (c : List ℕ) → with_all f (cs ++ c ∷ []) ≡ added (with_all f cs) (record { number = (with_all f cs).next; clause = c })
-with_all-push f [] c = refl
-with_all-push f (k ∷ ks) c = with_all-push (added f (record { number = f.next; clause = k })) ks c
-
-pub with_all-next : (f : Formula) (cs : List (List ℕ)) → (with_all f cs).next ≡ f.next + length cs
-with_all-next f [] = omega arith
-with_all-next f (k ∷ ks) = let more : (with_all (added f (record { number = f.next; clause = k })) ks).next ≡ f.next + 1 + length ks = with_all-next (added f (record { number = f.next; clause = k })) ks in omega arith
-
 pub with_all-variables : (f : Formula) (cs : List (List ℕ)) → (with_all f cs).variables ≡ f.variables
 with_all-variables f [] = refl
 with_all-variables f (k ∷ ks) = with_all-variables (added f (record { number = f.next; clause = k })) ks
@@ -79,10 +71,6 @@ variable_of-signed false x = variable_of-negative x
 pub weakens-read : (s : State) (cs : List Named) (i l : ℕ) (c : Named) → i < length cs → c ≡ get_or cs i c → IsRun s (map (λ k. Weaken k l) (drop i cs))
     → IsAllowed s.formula (Weaken c l) × IsRun (applied s (Weaken c l)) (map (λ k. Weaken k l) (drop (i + 1) cs))
 weakens-read s cs i l c h e r = subst (λ ks. IsRun s (map (λ k. Weaken k l) ks)) (drop-at cs i c h e) r
-
-pub weakened-read : (s : State) (cs : List Named) (i l : ℕ) (c : Named) → i < length cs → c ≡ get_or cs i c
-    → state_after s (map (λ k. Weaken k l) (drop i cs)) ≡ state_after (applied s (Weaken c l)) (map (λ k. Weaken k l) (drop (i + 1) cs))
-weakened-read s cs i l c h e = ap (λ ks. state_after s (map (λ k. Weaken k l) ks)) (drop-at cs i c h e)
 
 -- ---- an elimination: the additions, and then the weakenings of each list
 

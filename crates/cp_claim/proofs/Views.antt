@@ -3,7 +3,7 @@ use Rattle.std.proofs.Common.{◌≡◌, ℕ, Option, Some, None, true≢false, 
 use Rattle.std.specs.Prelude.{is_some, ◌==◌}
 use Rattle.std.specs.Option.{ForSome}
 use Rattle.std.proofs.lemmas.List.Sums.{sum_by-cons}
-use Rattle.cp_claim.specs.Views.{View, Share, DrawsOnly, all_shares, times_named, once_below, with_end}
+use Rattle.cp_claim.specs.Views.{View, Share, all_shares, times_named, once_below, with_end}
 use Rattle.cp_claim.specs.Rule.{shares_of, drawn_of}
 
 pub shares_of-living : (v : View) → v.lives ≡ true → shares_of v ≡ all_shares v
@@ -29,6 +29,3 @@ ended_word v some_end past = by_case v.mine.end refl
     by_case : (o : Option ℕ) → v.mine.end ≡ o → (word : ℕ) × (v.limit ≤ word) × (v ≡ with_end word v)
     by_case None e = absurd (true≢false (sym some_end ∙ ap is_some e))
     by_case (Some word) e = (word, past word e, λ i. record v { mine = record v.mine { end = e i } })
-
-pub DrawsOnly-trans : (u v w : View) → DrawsOnly u v → DrawsOnly v w → DrawsOnly u w
-DrawsOnly-trans u v w one two = two ∙ ap (λ (z : View). record z { drawn = w.drawn; mine = record z.mine { end = w.mine.end } }) one

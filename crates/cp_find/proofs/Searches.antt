@@ -17,17 +17,6 @@ use Rattle.cp_logic.proofs.Locals.{find_none, first_in-local}
 abbrev pub if_chosen : {X : Type 0} → Bool → Option X → Option X
 if_chosen b o = cond b o None
 
--- a kind has no answer where its first has none, and where it is not chosen; else its answer is its first
-pub if_chosen-nothing : {X : Type 0} (b : Bool) (o : Option X) → o ≡ None → if_chosen b o ≡ None
-if_chosen-nothing true o e = e
-if_chosen-nothing false o e = refl
-
-pub if_chosen-false : {X : Type 0} (b : Bool) (o : Option X) → b ≡ false → if_chosen b o ≡ None
-if_chosen-false b o e = ap (λ c. cond c o None) e
-
-pub if_chosen-true : {X : Type 0} (b : Bool) (o : Option X) → b ≡ true → if_chosen b o ≡ o
-if_chosen-true b o e = ap (λ c. cond c o None) e
-
 or-none : {X : Type 0} (o : Option X) → option_or o None ≡ o
 or-none None = refl
 or-none (Some x) = refl
@@ -145,46 +134,6 @@ module _ (cs : List Named) (rules : Rules) (next x : ℕ) where
       find-append test (blocks cs) (elimination cs next x ∷ [])
       ∙ ap (λ o. option_or o (find test (elimination cs next x ∷ []))) (find-chosen rules.choice.b test fitting (blocks cs) block-chosen)
       ∙ ap (option_or (if_chosen rules.choice.b (find fitting (blocks cs)))) elimination-chosen
-
-  -- ---- branch by branch, where the kinds are tried in turn
-
-  -- a tautology comes first
-  pub first_in-taut : (e : Entry) → rules.choice.t ≡ true → first_of_kind x cs (tauts cs) ≡ Some e → first_in cs rules next x ≡ Some e
-  first_in-taut e t h =
-      first_in-kinds ∙ ap (λ o. option_or o (option_or (if_chosen rules.choice.s (first_of_kind x cs (subsumptions cs)))
-      (option_or (if_chosen rules.choice.x (first_of_kind x cs (strengthenings cs next))) first_of_rest))) (if_chosen-true rules.choice.t _ t ∙ h)
-
-  after_tauts : if_chosen rules.choice.t (first_of_kind x cs (tauts cs)) ≡ None
-      → first_in cs rules next x ≡ option_or (if_chosen rules.choice.s (first_of_kind x cs (subsumptions cs))) (option_or (if_chosen rules.choice.x (first_of_kind x cs (strengthenings cs next))) first_of_rest)
-  after_tauts t =
-      first_in-kinds ∙ ap (λ o. option_or o (option_or (if_chosen rules.choice.s (first_of_kind x cs (subsumptions cs)))
-      (option_or (if_chosen rules.choice.x (first_of_kind x cs (strengthenings cs next))) first_of_rest))) t
-
-  -- then a subsumption
-  pub first_in-subsumption : (e : Entry) → if_chosen rules.choice.t (first_of_kind x cs (tauts cs)) ≡ None
-      → rules.choice.s ≡ true → first_of_kind x cs (subsumptions cs) ≡ Some e → first_in cs rules next x ≡ Some e
-  first_in-subsumption e t s h =
-      after_tauts t ∙ ap (λ o. option_or o (option_or (if_chosen rules.choice.x (first_of_kind x cs (strengthenings cs next))) first_of_rest)) (if_chosen-true rules.choice.s _ s ∙ h)
-
-  after_subsumptions : if_chosen rules.choice.t (first_of_kind x cs (tauts cs)) ≡ None → if_chosen rules.choice.s (first_of_kind x cs (subsumptions cs)) ≡ None
-      → first_in cs rules next x ≡ option_or (if_chosen rules.choice.x (first_of_kind x cs (strengthenings cs next))) first_of_rest
-  after_subsumptions t s = after_tauts t ∙ ap (λ o. option_or o (option_or (if_chosen rules.choice.x (first_of_kind x cs (strengthenings cs next))) first_of_rest)) s
-
-  -- then a strengthening
-  pub first_in-strengthening : (e : Entry) → if_chosen rules.choice.t (first_of_kind x cs (tauts cs)) ≡ None → if_chosen rules.choice.s (first_of_kind x cs (subsumptions cs)) ≡ None
-      → rules.choice.x ≡ true → first_of_kind x cs (strengthenings cs next) ≡ Some e → first_in cs rules next x ≡ Some e
-  first_in-strengthening e t s n h = after_subsumptions t s ∙ ap (λ o. option_or o first_of_rest) (if_chosen-true rules.choice.x _ n ∙ h)
-
-  -- where none of the three has an entry, what is left is the first of the others
-  pub first_in-rest : if_chosen rules.choice.t (first_of_kind x cs (tauts cs)) ≡ None → if_chosen rules.choice.s (first_of_kind x cs (subsumptions cs)) ≡ None
-      → if_chosen rules.choice.x (first_of_kind x cs (strengthenings cs next)) ≡ None → first_in cs rules next x ≡ first_of_rest
-  first_in-rest t s n = after_subsumptions t s ∙ ap (λ o. option_or o first_of_rest) n
-
-  -- and nothing, where neither blocked clauses nor elimination are chosen
-  pub first_in-none : rules.choice.b ≡ false → rules.choice.e ≡ false → if_chosen rules.choice.t (first_of_kind x cs (tauts cs)) ≡ None
-      → if_chosen rules.choice.s (first_of_kind x cs (subsumptions cs)) ≡ None → if_chosen rules.choice.x (first_of_kind x cs (strengthenings cs next)) ≡ None
-      → first_in cs rules next x ≡ None
-  first_in-none b e t s n = first_in-rest t s n ∙ first_of_rest-none b e
 
   -- where neither of those is chosen, the first is that of the first of the three kinds that has one
   pub first_in-three : rules.choice.b ≡ false → rules.choice.e ≡ false → first_in cs rules next x

@@ -1,17 +1,17 @@
 -- An entry at a variable: its clauses are of the variable's clauses, so all its variables are theirs.
-use Rattle.std.proofs.Common.{◌≡◌, ℕ, Bool, true, false, List, [], ◌∷◌, ◌++◌, map, get_or, refl, sym, ◌∙◌, ap, subst, inl, inr}
-use Rattle.std.specs.Prelude.{◌⊎◌, ◌==◌, IsTrue}
-use Rattle.std.specs.List.{All, Contains, flat_map}
-use Rattle.std.proofs.lemmas.Bool.{false≢true, eqb-true, not-true}
-use Rattle.std.proofs.lemmas.List.Elements.{Contains-append_cases, Contains-get_or}
+use Rattle.std.proofs.Common.{◌≡◌, ℕ, true, false, List, [], ◌∷◌, ◌++◌, map, refl, sym, ◌∙◌, subst, inl, inr}
+use Rattle.std.specs.Prelude.{◌⊎◌}
+use Rattle.std.specs.List.{Contains, flat_map}
+use Rattle.std.proofs.lemmas.Bool.{false≢true, eqb-true}
+use Rattle.std.proofs.lemmas.List.Elements.{Contains-append_cases}
 use Rattle.cp_logic.specs.declared.named.Named.{Named}
 use Rattle.cp_logic.specs.declared.settings.Rules.{Rules}
 use Rattle.cp_logic.specs.Literals.{variable_of, positive, negative, negated}
-use Rattle.cp_logic.specs.Clauses.{contains, has_variable, is_tautology, resolvent, without}
-use Rattle.cp_logic.specs.Formulas.{clauses_of, variables_in}
+use Rattle.cp_logic.specs.Clauses.{contains, resolvent}
+use Rattle.cp_logic.specs.Formulas.{variables_in}
 use Rattle.cp_logic.specs.Entries.{Entry, Taut, Subsume, Strengthen, Block, Eliminate, Look, old_clauses, new_clauses, gone_clauses, own_variables, variables_of, is_at, is_look, numbered}
-use Rattle.cp_logic.specs.Legality.{clauses_with, resolvents, is_legal_in}
-use Rattle.cp_logic.proofs.Members.{none_in, in_here, in_later, in_cases, in_map, of_map, in_flat_map, of_flat_map, of_filter, contains-in, in_contains}
+use Rattle.cp_logic.specs.Legality.{is_legal_in}
+use Rattle.cp_logic.proofs.Members.{none_in, in_later, in_cases, in_map, of_map, in_flat_map, of_flat_map, of_filter}
 use Rattle.cp_logic.proofs.SetFacts.{in_clause_of, of_clause_of, of_without, of_resolvent}
 use Rattle.cp_logic.proofs.Parts.{IsEliminate, taut-parts, subsume-parts, strengthen-parts, block-parts, eliminate-parts}
 use Rattle.cp_logic.proofs.Complete.{applies-numbered}

@@ -1,6 +1,6 @@
 -- Cells that list the clauses of a formula by variable: an entry at the centre is a change of them, and their locks follow it.
-use Rattle.std.proofs.Common.{◌≡◌, ◌≢◌, ℕ, zero, suc, ◌+◌, ◌<◌, ◌≤◌, Bool, true, false, cond, eqb, List, [], ◌∷◌, ◌++◌, length, map, get_or, Option, Some, None, refl, sym, ◌∙◌, ap, subst, inl, inr, arith}
-use Rattle.std.specs.Prelude.{◌⊎◌, ◌==◌, IsTrue}
+use Rattle.std.proofs.Common.{◌≡◌, ℕ, zero, suc, ◌<◌, ◌≤◌, Bool, true, cond, eqb, List, [], ◌∷◌, length, map, get_or, Some, refl, sym, ◌∙◌, ap, subst, inl, inr, arith}
+use Rattle.std.specs.Prelude.{IsTrue}
 use Rattle.std.specs.List.{All, Contains}
 use Rattle.std.specs.Option.{option_map}
 use Rattle.std.proofs.lemmas.Bool.{eq-eqb, ne_eqb, cases_eq}
@@ -14,14 +14,14 @@ use Rattle.cp_logic.specs.Formulas.{Formula, IsFormula, numbers_of, occurrences,
 use Rattle.cp_logic.specs.Entries.{Entry, new_clauses, gone_clauses, numbered, variables_of as variables_of_entry, is_at}
 use Rattle.cp_logic.specs.Legality.{is_legal_in}
 use Rattle.cp_logic.specs.Locality.{after}
-use Rattle.cp_logic.proofs.Members.{of_filter, in_map, contains-in, in_contains, in_cases, in_here}
+use Rattle.cp_logic.proofs.Members.{of_filter, in_map, contains-in, in_contains}
 use Rattle.cp_logic.proofs.Ascending.{same_number, below_others}
 use Rattle.cp_logic.proofs.Expansions.{below_at}
 use Rattle.cp_logic.proofs.Locals.{legal_in-local}
 use Rattle.cp_occ.specs.Cells.{CellView, variables_of, lists_of}
 use Rattle.cp_occ.specs.Changes.{IsChange, lists_after}
 use Rattle.cp_occ.proofs.Posted.{new-numbers, new-rise}
-use Rattle.cp_yard.specs.Views.{Lock, lock, held_of, locks_after}
+use Rattle.cp_yard.specs.Views.{Lock, held_of, locks_after}
 use Rattle.cp_yard.specs.Rule.{HoldsAll}
 use Rattle.cp_hood.specs.Hoods.{HoodView, IsHood, Covers, AreOccurrences, listed_of, clauses_at_home}
 use Rattle.cp_hood.proofs.Centred.{in_variables, of_variables, old-in, old-over, new-over, entry-over, gone-old, at-commit}

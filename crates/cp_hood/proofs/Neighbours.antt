@@ -17,7 +17,7 @@ use Rattle.cp_logic.proofs.Eliminations.{filter_all}
 use Rattle.cp_occ.specs.Cells.{CellView, IsOf, IsListed, variables_of}
 use Rattle.cp_yard.specs.Views.{Note, Got, Met, SeatView, held_of, lock, noted, with_lock}
 use Rattle.cp_yard.proofs.Lists.{held_of-same, held_of-other}
-use Rattle.cp_hood.specs.Hoods.{listed_of, clauses_at_home, Covers, HoldsJust, IsIdle}
+use Rattle.cp_hood.specs.Hoods.{listed_of, clauses_at_home, Covers, HoldsJust}
 use Rattle.cp_hood.specs.Seats.{with_locks}
 use Rattle.cp_hood.specs.Tries.{other_variables, other_cells, gots, IsWhole, IsCut}
 use Rattle.cp_hood.proofs.Holding.{listed-here, listed-later, listed-front, listed-last}
@@ -82,10 +82,6 @@ HoldsJust-locks (d ∷ ds) v cells h a f =
 
 pub HoldsJust-noted : (n : Note) (v : SeatView) (cells : List CellView) → HoldsJust v cells → HoldsJust (noted n v) cells
 HoldsJust-noted n v cells h = record { turn = h.turn; range = h.range; held = h.held }
-
--- the first lock of a seat that holds nothing
-pub HoldsJust-first : (v : SeatView) (c : CellView) → IsIdle v → c.variable ≤ v.base.formula.variables → HoldsJust (with_lock c.variable c.clauses v) (c ∷ [])
-HoldsJust-first v c i r = HoldsJust-locked v [] c (record { turn = i.turn; range = (λ k d l. absurd (omega arith)); held = λ y. ap (held_of y) i.held }) refl r
 
 -- the centre's cell, after those of lesser variables
 pub home-seam : (got : List CellView) (c : CellView) (more : List CellView) → ((d : CellView) → Contains got d → d.variable < c.variable) → clauses_at_home c.variable ((got ++ c ∷ []) ++ more) ≡ c.clauses

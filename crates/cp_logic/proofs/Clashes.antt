@@ -11,17 +11,14 @@ use Rattle.cp_logic.specs.Clauses.{without, is_tautology, resolvent, IsAscending
 use Rattle.cp_logic.proofs.Members.{in_cases, in_here, none_in}
 use Rattle.cp_logic.proofs.Ascending.{below_others}
 use Rattle.cp_logic.proofs.SetFacts.{IsAscending-clause_of}
-use Rattle.cp_logic.proofs.Merges.{Merging, merge-none, merge-all, merge-left_pivot, merge-right_pivot, merge-both, merge-left, merge-right}
-use Rattle.cp_logic.proofs.Tautologies.{Apart, Apart-none, Apart-push, tautology-at}
+use Rattle.cp_logic.proofs.Merges.{Merging, merge-all, merge-both, merge-left, merge-right}
+use Rattle.cp_logic.proofs.Tautologies.{Apart, Apart-push, tautology-at}
 
 -- the literals that were merged so far have no variable in both signs, and the last one has this variable
 pub record Unclashed (pivot : ℕ) (left right : List ℕ) (i j last : ℕ) : Type 0 where
   pub done : List ℕ
   pub merging : Merging pivot left right i j done
   pub apart : Apart done last
-
-pub unclashed-none : (p : ℕ) (left right : List ℕ) → Unclashed p left right 0 0 0
-unclashed-none p left right = record { done = []; merging = merge-none p left right; apart = Apart-none }
 
 -- in a list that rises the literals before one are less
 before : (xs rest : List ℕ) (x z : ℕ) → IsAscending ((xs ++ x ∷ []) ++ rest) → Contains xs z → z < x
@@ -31,13 +28,6 @@ before (y ∷ ys) rest x z a i = elim (in_cases z y ys i) [
       (Contains-append_left (ys ++ x ∷ []) rest x (Contains-append_right ys (x ∷ []) x (in_here x x [] refl))))
   | inr k ↦ before ys rest x z a.1 k
 ]
-
-module _ (p : ℕ) (left right : List ℕ) (i j last d : ℕ) (a : IsAscending left) (b : IsAscending right) (g : Unclashed p left right i j last) where
-  pub unclashed-left_pivot : get_or left i d ≡ p → get_or left i d < d → Unclashed p left right (i + 1) j last
-  unclashed-left_pivot e l = record { done = g.done; merging = merge-left_pivot p left right i j d g.done a b g.merging e l; apart = g.apart }
-
-  pub unclashed-right_pivot : get_or right j d ≡ negated p → get_or right j d < d → Unclashed p left right i (j + 1) last
-  unclashed-right_pivot e l = record { done = g.done; merging = merge-right_pivot p left right i j d g.done a b g.merging e l; apart = g.apart }
 
 -- one literal more was merged
 module _ (p : ℕ) (left right : List ℕ) (i j last x : ℕ) (done : List ℕ) (apart : Apart done last) (next : Merging p left right i j (done ++ x ∷ [])) where

@@ -141,12 +141,6 @@ all_above (s ∷ ss) n a h y i =
 
 -- a new slot at the place where lesser numbers end
 module _ (n : ℕ) (c : List ℕ) where
-  new_slot : Slot
-  new_slot = record { number = n; clause = Some c }
-
-  new_named : Named
-  new_named = record { number = n; clause = c }
-
   of_inserted : (slots : List Slot) (i : ℕ) → i ≤ length slots → (m : ℕ) → Contains (slot_numbers (insert slots i (record { number = n; clause = Some c }))) m → (m ≡ n) ⊎ Contains (slot_numbers slots) m
   of_inserted slots zero h m j = elim (in_cases m n (slot_numbers slots) j) [ inl e ↦ inl (sym e) | inr k ↦ inr k ]
   of_inserted [] (suc i) h m j = absurd (omega arith)

@@ -3,7 +3,7 @@ use Rattle.std.proofs.Common.{◌≡◌, ℕ, zero, suc, ◌+◌, ◌<◌, ◌�
 use Rattle.std.specs.Prelude.{◌⊎◌, ◌==◌}
 use Rattle.std.specs.List.{Contains, All, list_all}
 use Rattle.std.proofs.lemmas.Bool.{cases_eq, cases_lt, cases_order, and_parts, eq-eqb, ne_eqb, false≢true, false_from_ne_true}
-use Rattle.std.proofs.lemmas.List.Elements.{All-nil, All-push, All-append, All-filter, All-contains, Contains-append_left, Contains-append_right, Contains-append_cases}
+use Rattle.std.proofs.lemmas.List.Elements.{All-push, All-append, All-filter, All-contains, Contains-append_left, Contains-append_right, Contains-append_cases}
 use Rattle.std.proofs.lemmas.List.{append-nil}
 use Rattle.cp_logic.specs.Literals.{negated, IsLiteral}
 use Rattle.cp_logic.specs.Clauses.{contains, is_subset, without, clause_of, resolvent, IsAscending, IsClause}
@@ -379,9 +379,6 @@ pub record Rises (lits : List ℕ) (rises : Bool) (last : ℕ) : Type 0 where
   pub literals : All IsLiteral lits
   pub ascending : rises ≡ true → IsAscending lits
   pub below : rises ≡ true → (x : ℕ) → Contains lits x → x ≤ last
-
-pub Rises-none : (last : ℕ) → Rises [] true last
-Rises-none last = record { literals = All-nil IsLiteral; ascending = λ e. tt; below = λ e x i. absurd (none_in x i) }
 
 pub Rises-push : (lits : List ℕ) (rises now : Bool) (last y : ℕ) → Rises lits rises last → IsLiteral y → (now ≡ true → (rises ≡ true) × (last < y)) → Rises (lits ++ y ∷ []) now y
 Rises-push lits rises now last y r l h = record {

@@ -16,9 +16,6 @@ pub record Apart (lits : List ℕ) (last : ℕ) : Type 0 where
   pub below : (x : ℕ) → Contains lits x → variable_of x ≤ last
   pub seen : (last ≡ 0) ⊎ ((p : ℕ) × Contains lits p × (variable_of p ≡ last))
 
-pub Apart-none : Apart [] 0
-Apart-none = record { apart = refl; below = λ x i. absurd (none_in x i); seen = inl refl }
-
 -- one literal more, of another variable
 pub Apart-push : (lits : List ℕ) (last y : ℕ) → Apart lits last → ((x : ℕ) → Contains lits x → x < y) → (variable_of y ≡ last → ⊥) → Apart (lits ++ y ∷ []) (variable_of y)
 Apart-push lits last y h above other = record {

@@ -1,5 +1,5 @@
 -- Cells are changed, one variable of a clause after the other.
-use Rattle.std.proofs.Common.{◌≡◌, ℕ, zero, suc, ◌+◌, ◌<◌, ◌≤◌, Bool, true, false, not, cond, List, [], ◌∷◌, ◌++◌, length, take, drop, map, set, get_or, append_assoc, add-zero, refl, sym, ◌∙◌, ap, subst, inl, inr, arith}
+use Rattle.std.proofs.Common.{◌≡◌, ℕ, zero, suc, ◌+◌, ◌<◌, ◌≤◌, Bool, true, false, not, cond, List, [], ◌∷◌, ◌++◌, length, take, drop, map, set, get_or, add-zero, refl, sym, ◌∙◌, ap, subst, inl, inr, arith}
 use Rattle.std.specs.Prelude.{◌==◌, ◌≢◌, ◌||◌, IsTrue}
 use Rattle.std.specs.List.{All, Contains, filter}
 use Rattle.std.proofs.Math.Seq.{take-suc, map-set_same}
@@ -141,9 +141,6 @@ module _ (P : CellView → CellView → Type 0) (clause : List ℕ) (old cells :
       ];
     }
 
-pub Going-end : (P : CellView → CellView → Type 0) (clause : List ℕ) (old cells : List CellView) → Going P clause old cells [] → Each P old cells
-Going-end P clause old cells s = record { len = s.len; at = λ k d h. s.done k d h refl }
-
 -- ---- cells of no variable of the clause
 
 pub same-room : (n : ℕ) (added : Named) (c : CellView) → has_variable c.variable added.clause ≡ false → IsRoomier n (added ∷ []) c c
@@ -238,17 +235,9 @@ Each-back P n items slice new same len e =
 
 -- ---- one clause of a list after the other
 
--- no clause yet
-pub none-roomier : (n : ℕ) (c : CellView) → IsRoomier n [] c c
-none-roomier n c = record { variable = refl; clauses = refl; more = omega arith; room = λ d i t. absurd (none_in d i) }
-
 pub none-without : (c : CellView) → IsWithout [] c c
 none-without c = record { variable = refl; clauses = sym (without_none c.clauses); spare = omega arith }
 
-pub none-with : (c : CellView) → IsWith [] c c
-none-with c = record { variable = refl; clauses = sym (append-nil c.clauses); spare = add-zero c.spare }
-
--- these, and then more
 pub roomier-then : (n : ℕ) (done more : List Named) (a b c : CellView) → IsRoomier n done a b → IsRoomier n more b c → IsRoomier n (done ++ more) a c
 roomier-then n done more a b c p q = record {
   variable = q.variable ∙ p.variable;
@@ -275,23 +264,6 @@ occurrences-append done more x = filter-append (λ (n : Named). has_variable x n
 
 many-append : (done more : List Named) (x : ℕ) → length (occurrences (done ++ more) x) ≡ length (occurrences done x) + length (occurrences more x)
 many-append done more x = ap length (occurrences-append done more x) ∙ length-append (occurrences done x) (occurrences more x)
-
-pub with-then : (done more : List Named) (a b c : CellView) → IsWith done a b → IsWith more b c → IsWith (done ++ more) a c
-with-then done more a b c p q =
-    let same : occurrences more b.variable ≡ occurrences more a.variable = ap (occurrences more) p.variable in
-    record {
-      variable = q.variable ∙ p.variable;
-      clauses =
-          q.clauses ∙ ap (λ (cs : List Named). cs ++ occurrences more b.variable) p.clauses
-          ∙ ap (λ (cs : List Named). (a.clauses ++ occurrences done a.variable) ++ cs) same
-          ∙ append_assoc a.clauses (occurrences done a.variable) (occurrences more a.variable)
-          ∙ ap (λ (cs : List Named). a.clauses ++ cs) (sym (occurrences-append done more a.variable));
-      spare =
-          let all = many-append done more a.variable in
-          let first : b.spare + length (occurrences done a.variable) ≡ a.spare = p.spare in
-          let second : c.spare + length (occurrences more a.variable) ≡ b.spare = ap (λ (cs : List Named). c.spare + length cs) (sym same) ∙ q.spare in
-          omega arith;
-    }
 
 -- the clauses that go are gone, and then the new ones have come
 pub changed-by : (gone added : List Named) (a b c : CellView) → IsWithout gone a b → IsWith added b c → IsChanged gone added a c

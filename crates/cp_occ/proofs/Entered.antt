@@ -3,8 +3,8 @@ use Rattle.std.proofs.Common.{◌≡◌, ℕ, zero, suc, ◌+◌, ◌<◌, ◌�
 use Rattle.std.specs.Prelude.{◌==◌, ◌≢◌, ◌-◌, ◌||◌, nat_lt}
 use Rattle.std.specs.List.{All, Contains, range_with_len}
 use Rattle.std.proofs.lemmas.Bool.{eq-eqb, ne_eqb, eqb-true, ltb-true, false≢true, cases_eq}
-use Rattle.std.proofs.lemmas.List.{append-nil, take_all, drop_all, get_or_default, map-id, length-append, length-set, get_or-set_same, get_or-set_other}
-use Rattle.std.proofs.lemmas.List.Elements.{All-push, All-contains, Contains-get_or, Contains-append_right, filter-append}
+use Rattle.std.proofs.lemmas.List.{append-nil, take_all, drop_all, get_or_default, map-id, length-set, get_or-set_same, get_or-set_other}
+use Rattle.std.proofs.lemmas.List.Elements.{Contains-get_or, Contains-append_right, filter-append}
 use Rattle.cp_logic.specs.declared.named.Named.{Named}
 use Rattle.cp_logic.specs.Literals.{variable_of}
 use Rattle.cp_logic.specs.Clauses.{contains, has_variable, IsAscending}
@@ -20,31 +20,7 @@ pub record AreEmpty (n : ℕ) (cells : List CellView) : Type 0 where
   pub numbered : AreNumbered cells
   pub empty : All (λ (c : CellView). c.clauses ≡ []) cells
 
-pub AreEmpty-nil : AreEmpty 0 []
-AreEmpty-nil = record { len = refl; numbered = λ k d h. absurd (omega arith); empty = λ k d h. absurd (omega arith) }
-
--- a property of the position and the cell there, after a push
-indexed-push : (P : ℕ → CellView → Type 0) (cells : List CellView) (c : CellView) → ((k : ℕ) (d : CellView) → k < length cells → P k (get_or cells k d)) → P (length cells) c
-    → (k : ℕ) (d : CellView) → k < length cells + 1 → P k (get_or (cells ++ c ∷ []) k d)
-indexed-push P [] c h p zero d l = p
-indexed-push P [] c h p (suc k) d l = absurd (omega arith)
-indexed-push P (e ∷ es) c h p zero d l = h zero d (omega arith)
-indexed-push P (e ∷ es) c h p (suc k) d l = indexed-push (λ j. P (suc j)) es c (λ j d l. h (suc j) d (omega arith)) p k d (omega arith)
-
-pub AreEmpty-push : (n : ℕ) (cells : List CellView) (c : CellView) → AreEmpty n cells → c.variable ≡ n + 1 → c.clauses ≡ [] → AreEmpty (n + 1) (cells ++ c ∷ [])
-AreEmpty-push n cells c a v e =
-    let len : length (cells ++ c ∷ []) ≡ length cells + 1 = length-append cells (c ∷ []) in
-    let n-is : length cells ≡ n = a.len in
-    record {
-      len = omega arith;
-      numbered = λ k d l. indexed-push (λ k (x : CellView). x.variable ≡ k + 1) cells c a.numbered (omega arith) k d (omega arith);
-      empty = All-push (λ (c : CellView). c.clauses ≡ []) cells c a.empty e;
-    }
-
 -- ---- the variables of a clause
-
-cond-same : {X : Type 0} (b c : Bool) (x y : X) → b ≡ c → cond b x y ≡ cond c x y
-cond-same b c x y e = ap (λ d. cond d x y) e
 
 -- a variable other than the last one is among them exactly where the literals have it
 pub contains-after : (last : ℕ) (ls : List ℕ) (x : ℕ) → x ≢ last → contains (variables_after last ls) x ≡ has_variable x ls
@@ -201,9 +177,6 @@ pub record Filled (f : Formula) (left : List Named) (cells : List CellView) : Ty
   pub numbered : AreNumbered cells
   pub clauses : (k : ℕ) (d : CellView) → k < length cells → (get_or cells k d).clauses ≡ occurrences done (k + 1)
 
-pub Filled-start : (f : Formula) (n : ℕ) (cells : List CellView) → n ≡ f.variables → AreEmpty n cells → Filled f f.clauses cells
-Filled-start f n cells e a = record { done = []; split = refl; len = a.len ∙ e; numbered = a.numbered; clauses = λ k d h. a.empty k d h }
-
 -- the clauses before one have lesser numbers
 before-it : (done : List Named) (n : Named) (left : List Named) → IsAscending (numbers_of (done ++ n ∷ left)) → (c : Named) → Contains done c → c.number < n.number
 before-it [] n left a c i = absurd (none_in c i)
@@ -224,12 +197,6 @@ module _ (f : Formula) (n : Named) (left : List Named) (cells : List CellView) (
       subst (All (λ (c : Named). c.number < n.number)) (sym (s.clauses k d h))
       (λ j e l. before-it s.done n left rising (get_or (occurrences s.done (k + 1)) j e)
       (of_filter (λ (c : Named). has_variable (k + 1) c.clause) s.done (get_or (occurrences s.done (k + 1)) j e) (Contains-get_or (occurrences s.done (k + 1)) j e l)).0)
-
-  pub within-cells : IsWithin (length cells) n.clause
-  within-cells =
-      rw s.len
-      (All-contains (λ (c : Named). IsWithin f.variables c.clause) f.clauses n valid.within
-      (subst (λ (cs : List Named). Contains cs n) s.split (Contains-append_right s.done (n ∷ left) n (in_here n n left refl))))
 
   pub Filled-step : (new : List CellView) → Enters n cells new → Filled f left new
   Filled-step new e =

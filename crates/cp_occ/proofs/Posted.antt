@@ -2,7 +2,7 @@
 use Rattle.std.proofs.Common.{◌≡◌, ℕ, zero, suc, ◌+◌, ◌<◌, ◌≤◌, Bool, true, false, cond, List, [], ◌∷◌, length, map, get_or, refl, sym, ◌∙◌, ap, subst, inl, inr, arith}
 use Rattle.std.specs.List.{All, Contains, range_with_len}
 use Rattle.std.proofs.lemmas.List.{get_or-map, map-id, length-map}
-use Rattle.std.proofs.lemmas.List.Elements.{Contains-get_or, All-append, All-push}
+use Rattle.std.proofs.lemmas.List.Elements.{Contains-get_or}
 use Rattle.std.proofs.lemmas.List.FromFn.{get_or-map-range_with_len, length-range_with_len}
 use Rattle.cp_logic.specs.declared.named.Named.{Named}
 use Rattle.cp_logic.specs.declared.settings.Rules.{Rules}
@@ -237,20 +237,3 @@ many-numbered n (Look y) x = refl
 
 pub HasRoom-numbered : (n : ℕ) (e : Entry) (cells : List CellView) → HasRoom cells e → HasRoom cells (numbered n e)
 HasRoom-numbered n e cells h = λ j d m. subst (λ q. q ≤ (get_or cells j d).spare) (sym (many-numbered n e (get_or cells j d).variable)) (h j d m)
-
--- what is so of each numbered new clause is so of the entry's own
-module _ (P : List ℕ → Type 0) where
-  each-renumbered : (n : ℕ) (cs : List Named) → All (λ (c : Named). P c.clause) (renumbered n cs) → All (λ (c : Named). P c.clause) cs
-  each-renumbered n [] h = λ j d m. absurd (omega arith)
-  each-renumbered n (c ∷ cs) h =
-      let first = h zero c (omega arith) in
-      let rest = each-renumbered (n + 1) cs (λ j d m. h (suc j) d (omega arith)) in
-      All-append (λ (z : Named). P z.clause) (c ∷ []) cs (All-push (λ (z : Named). P z.clause) [] c (λ j d m. absurd (omega arith)) first) rest
-
-  pub each-numbered : (n : ℕ) (e : Entry) → All (λ (c : Named). P c.clause) (new_clauses (numbered n e)) → All (λ (c : Named). P c.clause) (new_clauses e)
-  each-numbered n (Taut gone) h = h
-  each-numbered n (Subsume by gone) h = h
-  each-numbered n (Strengthen by on l new) h = each-renumbered n (new ∷ []) h
-  each-numbered n (Block gone l) h = h
-  each-numbered n (Eliminate x pos neg new) h = each-renumbered n new h
-  each-numbered n (Look x) h = h

@@ -3,8 +3,7 @@ use Rattle.std.proofs.Common.{◌≡◌, ℕ, ◌+◌, Bool, true, false, cond, 
 use Rattle.std.specs.Prelude.{is_some, nat_le}
 use Rattle.std.proofs.lemmas.Bool.Decides.{nat_tests}
 use Rattle.cp_logic.specs.declared.settings.Rules.{Rules}
-use Rattle.cp_logic.specs.declared.settings.Stop.{Stop}
-use Rattle.cp_logic.specs.declared.settings.Stop.TheVariants.{Refuted as StopRefuted, Spent as StopSpent, Numbers as StopNumbers}
+use Rattle.cp_logic.specs.declared.settings.Stop.TheVariants.{Refuted as StopRefuted, Spent as StopSpent}
 use Rattle.cp_logic.specs.Formulas.{Formula, IsFormula, has_empty}
 use Rattle.cp_logic.specs.Rules.{Rule, Add, Drop, Weaken, State, state_after, applied, added, removed}
 use Rattle.cp_logic.specs.Entries.{Entry, expand, new_clauses, numbered}
@@ -45,19 +44,6 @@ goes-on b h = go (has_empty (current b).clauses) (is_spent b.rules (commits b.po
     go false true t = cc
     go false false t = (refl, refl)
 
--- where it is stopped, which of the two it is
-pub stopped-by : (b : BookView) (s : Stop) → stop_in b ≡ Some s
-    → (c : Cursor) → cond (has_empty (current b).clauses) (let t : Turn = record { stop = Some StopRefuted; cursor = c } in t)
-    (cond (is_spent b.rules (commits b.posts)) (let t : Turn = record { stop = Some StopSpent; cursor = c } in t) (let t : Turn = record { stop = Some s; cursor = c } in t))
-    ≡ record { stop = Some s; cursor = c }
-stopped-by b s h c = go (has_empty (current b).clauses) (is_spent b.rules (commits b.posts)) h
-  where
-    go : (e k : Bool) → cond e (Some StopRefuted) (cond k (Some StopSpent) None) ≡ Some s
-        → cond e (let t : Turn = record { stop = Some StopRefuted; cursor = c } in t) (cond k (let t : Turn = record { stop = Some StopSpent; cursor = c } in t) (let t : Turn = record { stop = Some s; cursor = c } in t)) ≡ record { stop = Some s; cursor = c }
-    go true k t = ap (λ (o : Option Stop). let u : Turn = record { stop = o; cursor = c } in u) t
-    go false true t = ap (λ (o : Option Stop). let u : Turn = record { stop = o; cursor = c } in u) t
-    go false false t = refl
-
 -- the book takes a legal entry whose numbers fit
 pub takes : (b : BookView) (e : Entry) → stop_in b ≡ None → passes_numbers (current b) e ≡ false → is_legal (current b) b.rules (numbered (current b).next e) ≡ true
     → answer_to b e ≡ Posted (length b.posts)
@@ -70,15 +56,9 @@ takes b e goes fits legal =
 pub fits-from : (f : Formula) (e : Entry) → passes_numbers f e ≡ false → nat_le (f.next + length (new_clauses e)) number_limit ≡ true
 fits-from f e h = grind (arith, nat_tests)
 
-pub fits-not : (f : Formula) (e : Entry) → passes_numbers f e ≡ true → nat_le (f.next + length (new_clauses e)) number_limit ≡ false
-fits-not f e h = grind (arith, nat_tests)
-
 -- the turn of an entry that was posted, and of one that has no number
 pub turn-posted : (left : Formula) (c : Cursor) (e : Entry) → passes_numbers left e ≡ false → turn_for left c (Some e) ≡ record { stop = None; cursor = after_post c e }
 turn-posted left c e h = rw (fits-from left e h) refl
-
-pub turn-numbers : (left : Formula) (c : Cursor) (e : Entry) → passes_numbers left e ≡ true → turn_for left c (Some e) ≡ record { stop = Some StopNumbers; cursor = c }
-turn-numbers left c e h = rw (fits-not left e h) refl
 
 -- a turn that goes on, with its cursor at a post
 abbrev pub turn_at : List Post → ℕ → List Bool → Turn

@@ -5,7 +5,6 @@ use Rattle.std.specs.Option.{option_or}
 use Rattle.std.proofs.lemmas.List.Folds.{find-append}
 use Rattle.std.proofs.lemmas.List.Elements.{Contains-append_cases}
 use Rattle.cp_logic.specs.Sweeps.{variables_from}
-use Rattle.cp_logic.proofs.Members.{in_cases, none_in}
 use Rattle.cp_logic.proofs.Locals.{find_none}
 use Rattle.cp_occ.proofs.Posted.{of_range}
 

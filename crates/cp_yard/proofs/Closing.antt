@@ -64,9 +64,6 @@ AreAfter-push f h n cells c all is = let q : n + 1 ≡ 1 + n = omega arith in re
   lists = map-append (λ (d : CellView). d.clauses) cells (c ∷ []) ∙ ((λ i. all.lists i ++ (is.1 ∙ ap (clauses_at f h) q) i ∷ []) ∙ (sym (map-append (clauses_at f h) (range_with_len 1 n) ((1 + n) ∷ [])) ∙ ap (map (clauses_at f h)) (sym (range-snoc 1 n))));
 }
 
-pub AreAfter-none : (f : Base) (h : List Post) → AreAfter f h 0 []
-AreAfter-none f h = record { variables = refl; lists = refl }
-
 -- a journal keeps the number of variables
 pub variables-kept : (f : Base) (h : List Post) → IsLegal f h → (folded f.formula h).formula.variables ≡ f.formula.variables
 variables-kept f h legal = (journal-formula f.formula f.rules h legal.0 legal.1).1
@@ -90,9 +87,6 @@ there : {A : Type 0} (l : List A) (i : ℕ) → i < length l → (a : A) × (get
 there [] i h = absurd (omega arith)
 there (x ∷ xs) zero h = (x, refl)
 there (x ∷ xs) (suc i) h = there xs i (omega arith)
-
-all_none : {A : Type 0} (P : A → Type 0) → All P []
-all_none P k d h = absurd (omega arith)
 
 pub opens : (b : BookView) (cells : List CellView) (n : ℕ) → IsLegal (base_of b) b.posts → All (λ p. p.worker ≡ 0) b.posts → AreAfter (base_of b) b.posts n cells
     → Stands (base_of b) (opening (replicate (length cells + 1) 0) (OfTurn b ∷ map (λ c. OfVariable c) cells) (founder b))

@@ -104,13 +104,6 @@ module _ (f : Base) where
       (λ ne. inr (i, held.1, word ∙ held.2, record { there = set_else views id i w ne ∙ o.there; lives = o.lives; turn = o.turn }))
 
   -- who has a lock is the seat that the word names
-  pub holder : (s : St) (r : Stands f s) (id : ℕ) (v : SeatView) → get_elem? s.views id ≡ some v → (x : ℕ) → 0 < x → x < length s.homes → get_or s.words x 0 ≡ id + 1
-      → (l : List Named) × (held_of x v.held ≡ Some l)
-  holder s r id v at x pos small word = ⊎_elim (λ free. let z = free.0 in absurd (omega arith))
-      (λ held. let e : held.0 ≡ id = (let a = held.3 in omega arith) in let o = held.4 in
-      let v_is : held.1 ≡ v = some-injective held.1 v (sym o.there ∙ (ap (get_elem? s.views) e ∙ at)) in (held.2, ap (λ (z : SeatView). held_of x z.held) (sym v_is) ∙ o.held))
-      (r.locks x pos small)
-
   -- one seat's step
   pub moves : (s : St) (r : Stands f s) (id : ℕ) (v w : SeatView) → get_elem? s.views id ≡ some v → v.lives ≡ true → w.lives ≡ true
       → (i n : ℕ) (homes' : Homes) (h' : List Post) (notes' : ℕ → List Note) → length homes' ≡ length s.homes → IsLegal f h' → All (λ p. p.worker < length s.views) h'

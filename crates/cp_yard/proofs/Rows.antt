@@ -44,9 +44,6 @@ holds_three e n ks vars three x within = three_held ks three x (contains-in (1 �
 pub HasThree-after : (e : Entry) (ks js : List Lock) → HasThree ks → js ≡ locks_after e ks → HasThree js
 HasThree-after e ks js three is = let all = ap (locks_after e) three.3 in (_, _, _, is ∙ all)
 
-pub none_left : (ks : List Lock) → HasThree ks → without_lock 1 (without_lock 2 (without_lock 3 ks)) ≡ []
-none_left ks three = ap (λ (zs : List Lock). without_lock 1 (without_lock 2 (without_lock 3 zs))) three.3
-
 small_place : (k : ℕ) → k < 3 → Contains (1 ∷ 2 ∷ 3 ∷ []) (k + 1)
 small_place zero h = (0, omega arith, refl)
 small_place (suc zero) h = (1, omega arith, refl)

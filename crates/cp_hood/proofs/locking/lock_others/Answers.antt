@@ -10,7 +10,7 @@ use Rattle.cp_hood.specs.declared.answers.HoodAnswer.{HoodAnswer}
 use Rattle.cp_hood.specs.Tries.{IsTry}
 use Rattle.cp_hood.proofs.Neighbours.{low-ascends, high-ascends, centre-is_near}
 use Rattle.cp_hood.proofs.Tries as tries
-use Rattle.cp_hood.proofs.Tries.{Around, around, above, row-cut}
+use Rattle.cp_hood.proofs.Tries.{around, above, row-cut}
 use Rattle.cp_hood.proofs.locking.lock_others.Goals as goal
 
 pub position-at-requires-clause-ascending : goal.position-at-requires-clause-ascending

@@ -1,8 +1,5 @@
-use Rattle.std.proofs.Common.{◌≡◌, true, sym, ap, ◌∙◌, subst}
-use Rattle.std.proofs.lemmas.Bool.{not-true}
-use Rattle.cp_logic.specs.declared.named.Named.{Named}
-use Rattle.cp_logic.specs.Formulas.{Formula}
-use Rattle.cp_logic.specs.Entries.{Entry, is_at, numbered}
+use Rattle.std.proofs.Common.{◌≡◌, sym, ap, ◌∙◌, subst}
+use Rattle.cp_logic.specs.Entries.{is_at, numbered}
 use Rattle.cp_logic.specs.Views.{entry_of}
 use Rattle.cp_logic.proofs.Complete.{is_at-numbered}
 use Rattle.cp_book.specs.Views.{BookView, current}

@@ -1,4 +1,4 @@
-use Rattle.std.proofs.Common.{◌≡◌, [], ◌∷◌, ◌++◌, length, refl}
+use Rattle.std.proofs.Common.{length, refl}
 use Rattle.cp_logic.specs.Journals.{Post}
 use Rattle.cp_logic.specs.Views.{entry_of}
 use Rattle.cp_book.specs.Answers.{answer_to}

@@ -1,5 +1,4 @@
-use Rattle.std.proofs.Common.{◌≡◌, [], ◌∷◌, List, ◌∙◌}
-use Rattle.cp_logic.specs.declared.named.Named.{Named}
+use Rattle.std.proofs.Common.{◌≡◌, [], ◌∷◌, ◌∙◌}
 use Rattle.cp_logic.specs.Clauses.{clause_of}
 use Rattle.cp_logic.specs.Entries.{Eliminate, variables_of}
 use Rattle.cp_yard.proofs.Rows.{of_row}

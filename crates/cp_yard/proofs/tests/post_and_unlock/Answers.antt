@@ -1,7 +1,7 @@
 use Rattle.std.proofs.Common.{◌≡◌, ℕ, List, [], ◌∷◌, ◌++◌, map, length, ap, ◌∙◌, subst}
 use Rattle.std.specs.List.{range_with_len}
 use Rattle.cp_logic.specs.Formulas.{Formula, occurrences}
-use Rattle.cp_logic.specs.Entries.{Entry, numbered}
+use Rattle.cp_logic.specs.Entries.{numbered}
 use Rattle.cp_logic.specs.Journals.{Post}
 use Rattle.cp_logic.specs.Views.{entry_of}
 use Rattle.cp_book.specs.Views.{BookView, current}

@@ -1,4 +1,4 @@
-use Rattle.std.proofs.Common.{sym, ap, subst}
+use Rattle.std.proofs.Common.{sym, subst}
 use Rattle.cp_yard.specs.Views.{SeatView}
 use Rattle.cp_yard.specs.Rows.{Fits}
 use Rattle.cp_yard.proofs.Rows.{Fits-last, Fits-front}

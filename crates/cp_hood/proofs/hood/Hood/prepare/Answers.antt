@@ -1,6 +1,5 @@
-use Rattle.std.proofs.Common.{refl, ◌≡◌, true, get_or, ap, sym, subst}
+use Rattle.std.proofs.Common.{refl, ◌≡◌, true, get_or, sym, subst}
 use Rattle.std.proofs.lemmas.List.Elements.{Contains-get_or}
-use Rattle.cp_logic.specs.Clauses.{contains}
 use Rattle.cp_logic.specs.Entries.{new_clauses}
 use Rattle.cp_logic.specs.Views.{entry_of}
 use Rattle.cp_logic.specs.Legality.{is_legal_in}
