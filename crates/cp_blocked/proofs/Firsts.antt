@@ -4,7 +4,6 @@ use Rattle.std.specs.Prelude.{◌==◌}
 use Rattle.std.specs.Option.{option_map}
 use Rattle.std.specs.List.{Contains, find, list_all, list_any}
 use Rattle.std.proofs.lemmas.Bool.{and_parts, and_from, false≢true, eqb-true, eqb-false, eq-eqb, false_from_ne_true}
-use Rattle.std.proofs.lemmas.List.Elements.{All-contains}
 use Rattle.cp_logic.specs.declared.named.Named.{Named}
 use Rattle.cp_logic.specs.Literals.{negated, positive, negative, is_positive, variable_of}
 use Rattle.cp_logic.specs.Clauses.{contains, is_tautology, has_variable, resolvent}
@@ -15,17 +14,10 @@ use Rattle.cp_logic.proofs.LiteralFacts.{variable_of-positive, variable_of-negat
 use Rattle.cp_logic.proofs.SetFacts.{tautology-from}
 use Rattle.cp_logic.proofs.Parts.{IsBlock, block-fits}
 use Rattle.cp_logic.proofs.Locals.{same_bool, block-from, find_none}
-use Rattle.cp_occ.specs.Cells.{CellView, IsOf, IsCell}
+use Rattle.cp_logic.proofs.ListFacts.{find-one}
+use Rattle.cp_occ.proofs.Having.{AllHave}
 use Rattle.cp_blocked.specs.Finds.{literal_at, is_blocked_at}
-use Rattle.cp_blocked.proofs.Scans.{find-chosen, find-one}
-
--- each clause of the list has the variable
-abbrev pub AllHave : ℕ → List Named → Type 0
-AllHave x cs = (c : Named) → Contains cs c → has_variable x c.clause ≡ true
-
--- each clause of a cell has its variable
-pub cell-have : (cell : CellView) → IsCell cell → AllHave cell.variable cell.clauses
-cell-have cell v c i = (All-contains (IsOf cell.variable) cell.clauses c v.have i).has
+use Rattle.cp_blocked.proofs.Scans.{find-chosen}
 
 -- whether a clause of the list is a tautology
 abbrev pub has_tautology : List Named → Bool

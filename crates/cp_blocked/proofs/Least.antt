@@ -14,20 +14,14 @@ use Rattle.cp_logic.proofs.Members.{in_here, in_later, in_cases, none_in, of_map
 use Rattle.cp_logic.proofs.Locals.{find_none, first_in-local}
 use Rattle.cp_logic.proofs.Complete.{nothing-missed}
 use Rattle.cp_logic.proofs.Order.{first-least}
+use Rattle.cp_logic.proofs.ListFacts.{find-second, or-none}
 use Rattle.cp_blocked.specs.Laws.{IsBlockedAt, IsFirstBlocked, FirstIsLeast, FirstIsLocal}
 
 -- rules that choose blocked clauses alone
 abbrev pub only_blocks : Rules
 only_blocks = record { choice = record { t = false; s = false; x = false; b = true; e = false }; bound = 0; budget = 0 }
 
--- of two lists, nothing in the first passes; or nothing in the second
-find-second : {X : Type 0} (p : X → Bool) (xs ys : List X) → ((x : X) → Contains xs x → p x ≡ false) → find p (xs ++ ys) ≡ find p ys
-find-second p xs ys h = find-append p xs ys ∙ ap (λ o. option_or o (find p ys)) (find_none p xs h)
-
-or-none : {X : Type 0} (o : Option X) → option_or o None ≡ o
-or-none None = refl
-or-none (Some x) = refl
-
+-- nothing in the second of two lists passes
 find-first : {X : Type 0} (p : X → Bool) (xs ys : List X) → ((y : X) → Contains ys y → p y ≡ false) → find p (xs ++ ys) ≡ find p xs
 find-first p xs ys h = find-append p xs ys ∙ ap (option_or (find p xs)) (find_none p ys h) ∙ or-none (find p xs)
 

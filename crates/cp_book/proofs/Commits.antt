@@ -10,6 +10,7 @@ use Rattle.cp_logic.specs.Entries.{Entry, Taut, Subsume, Strengthen, Block, Elim
 use Rattle.cp_logic.specs.Legality.{fits, is_legal_in, is_legal}
 use Rattle.cp_logic.proofs.Eliminations.{state_after-append}
 use Rattle.cp_logic.proofs.EntryRuns.{entry-run_in}
+use Rattle.cp_logic.proofs.Complete.{clauses_of-renumbered, length-renumbered}
 
 -- the next number rises by the new clauses
 next-adds : (s : State) (cs : List Named) → (state_after s (map Add cs)).formula.next ≡ s.formula.next + length cs
@@ -33,15 +34,7 @@ after-next s (Eliminate x pos neg new) =
     ∙ next-weakens (state_after (state_after s adds) first) neg (negative x) ∙ next-weakens (state_after s adds) pos (positive x) ∙ next-adds s new
 after-next s (Look x) = omega arith
 
--- numbering keeps the clauses, and once is enough
-pub clauses-renumbered : (n : ℕ) (cs : List Named) → clauses_of (renumbered n cs) ≡ clauses_of cs
-clauses-renumbered n [] = refl
-clauses-renumbered n (c ∷ cs) = ap (λ ks. c.clause ∷ ks) (clauses-renumbered (n + 1) cs)
-
-pub length-renumbered : (n : ℕ) (cs : List Named) → length (renumbered n cs) ≡ length cs
-length-renumbered n [] = refl
-length-renumbered n (c ∷ cs) = let more : length (renumbered (n + 1) cs) ≡ length cs = length-renumbered (n + 1) cs in omega arith
-
+-- numbering once is enough
 renumbered-again : (n : ℕ) (cs : List Named) → renumbered n cs ≡ renumbered n (renumbered n cs)
 renumbered-again n [] = refl
 renumbered-again n (c ∷ cs) = ap (λ ks. (let d : Named = record { number = n; clause = c.clause } in d) ∷ ks) (renumbered-again (n + 1) cs)
@@ -67,7 +60,7 @@ new-numbered n (Taut gone) = refl
 new-numbered n (Subsume by gone) = refl
 new-numbered n (Strengthen by on l new) = refl
 new-numbered n (Block gone l) = refl
-new-numbered n (Eliminate x pos neg new) = clauses-renumbered n new
+new-numbered n (Eliminate x pos neg new) = clauses_of-renumbered n new
 new-numbered n (Look x) = refl
 
 pub count-numbered : (n : ℕ) (e : Entry) → length (new_clauses (numbered n e)) ≡ length (new_clauses e)
@@ -81,7 +74,7 @@ count-numbered n (Look x) = refl
 -- the numbers of new clauses do not count for legality
 fits-renumbered : (cs : List Named) (bound n x : ℕ) (pos neg new : List Named) → fits cs bound (Eliminate x pos neg (renumbered n new)) ≡ fits cs bound (Eliminate x pos neg new)
 unfolding fits
-fits-renumbered cs bound n x pos neg new = rw (clauses-renumbered n new, length-renumbered n new) refl
+fits-renumbered cs bound n x pos neg new = rw (clauses_of-renumbered n new, length-renumbered n new) refl
 
 pub legal-numbered : (f : Formula) (rules : Rules) (n : ℕ) (e : Entry) → is_legal f rules (numbered n e) ≡ is_legal f rules e
 unfolding is_legal is_legal_in fits

@@ -7,9 +7,9 @@ use Rattle.std.proofs.lemmas.Bool.{false_from_ne_true, false≢true, ne_eqb}
 use Rattle.cp_logic.specs.declared.named.Named.{Named}
 use Rattle.cp_logic.specs.Clauses.{contains, is_empty}
 use Rattle.cp_logic.specs.Formulas.{has_empty, without_numbers}
-use Rattle.cp_logic.proofs.Members.{any_from, of_filter, in_here, in_later}
+use Rattle.cp_logic.proofs.Members.{any_from, of_filter}
+use Rattle.cp_logic.proofs.ListFacts.{drop-at, find-second}
 use Rattle.cp_book.specs.Empties.{least_empty}
-use Rattle.cp_book.proofs.ReadFacts.{drop-at}
 
 abbrev empty_clause : Named → Bool
 empty_clause c = is_empty c.clause
@@ -27,16 +27,11 @@ has_empty-least (c ∷ cs) = go (is_empty c.clause) (has_empty-least cs)
 pub no_empty-least : (cs : List Named) → least_empty cs ≡ None → has_empty cs ≡ false
 no_empty-least cs e = has_empty-least cs ∙ ap is_some e
 
-find-append_none : {X : Type 0} (p : X → Bool) (xs ys : List X) → ((x : X) → Contains xs x → p x ≡ false) → find p (xs ++ ys) ≡ find p ys
-find-append_none p [] ys h = refl
-find-append_none p (x ∷ xs) ys h =
-    ap (λ b. cond b (Some x) (find p (xs ++ ys))) (h x (in_here x x xs refl)) ∙ find-append_none p xs ys (λ y i. h y (in_later y x xs i))
-
 -- where no clause is empty, the empty ones after a removal and an addition are among the new ones
 pub least_empty-changed : (cs new : List Named) (numbers : List ℕ) → has_empty cs ≡ false → least_empty (without_numbers cs numbers ++ new) ≡ least_empty new
 least_empty-changed cs new numbers h =
     ap (option_map (λ (c : Named). c.number))
-    (find-append_none empty_clause (without_numbers cs numbers) new
+    (find-second empty_clause (without_numbers cs numbers) new
     (λ c i. false_from_ne_true (empty_clause c) (λ t. no c (of_filter (λ (d : Named). not (contains numbers d.number)) cs c i).0 t)))
   where
     no : (c : Named) → Contains cs c → empty_clause c ≡ true → ⊥

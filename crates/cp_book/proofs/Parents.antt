@@ -1,7 +1,7 @@
 -- The clauses of a variable and their resolvents, a clause at a time.
-use Rattle.std.proofs.Common.{◌≡◌, ℕ, ◌+◌, ◌<◌, ◌≤◌, false, not, List, [], ◌∷◌, ◌++◌, map, length, drop, get_or, refl, sym, ◌∙◌, ap, inl, inr, arith}
+use Rattle.std.proofs.Common.{◌≡◌, ℕ, ◌+◌, ◌<◌, ◌≤◌, false, not, List, [], ◌++◌, map, length, drop, get_or, sym, ◌∙◌, ap, inl, inr, arith}
 use Rattle.std.specs.Prelude.{◌⊎◌}
-use Rattle.std.specs.List.{Contains, flat_map}
+use Rattle.std.specs.List.{flat_map}
 use Rattle.std.proofs.lemmas.Bool.{false_from_ne_true}
 use Rattle.std.proofs.lemmas.List.Elements.{filter-append}
 use Rattle.cp_logic.specs.declared.named.Named.{Named}
@@ -10,12 +10,13 @@ use Rattle.cp_logic.specs.Clauses.{contains, is_tautology, resolvent}
 use Rattle.cp_logic.specs.Formulas.{Formula, IsFormula}
 use Rattle.cp_logic.specs.Entries.{Eliminate}
 use Rattle.cp_logic.specs.Legality.{clauses_with, resolvents, fits}
-use Rattle.cp_logic.proofs.Members.{of_filter, in_here, contains-in}
+use Rattle.cp_logic.proofs.Members.{of_filter, contains-in}
 use Rattle.cp_logic.proofs.LiteralFacts.{variable_of-positive, variable_of-negative}
 use Rattle.cp_logic.proofs.Parts.{eliminate-fits}
 use Rattle.cp_logic.proofs.Expansions.{within_at, variable_within}
+use Rattle.cp_logic.proofs.ListFacts.{drop-at}
+use Rattle.cp_logic.proofs.SetFacts.{no_members}
 use Rattle.cp_book.specs.Passes.{resolvents_with}
-use Rattle.cp_book.proofs.ReadFacts.{drop-at}
 
 -- the resolvents of the clause that is read, and then those of the others
 pub resolvents-read : (x i : ℕ) (pos neg : List Named) (c : Named) → i < length pos → c ≡ get_or pos i c
@@ -24,10 +25,6 @@ resolvents-read x i pos neg c h e =
     ap (λ cs. resolvents x cs neg) (drop-at pos i c h e)
     ∙ filter-append (λ k. not (is_tautology k)) (map (λ (d : Named). resolvent (positive x) c.clause d.clause) neg)
     (flat_map (λ (k : Named). map (λ (d : Named). resolvent (positive x) k.clause d.clause) neg) (drop (i + 1) pos))
-
-no_members : (cs : List Named) → ((c : Named) → Contains cs c → ⊥) → cs ≡ []
-no_members [] h = refl
-no_members (c ∷ cs) h = absurd (h c (in_here c c cs refl))
 
 -- no clause has a variable that is out of range
 none_with : (f : Formula) (l : ℕ) → IsFormula f → (variable_of l ≡ 0) ⊎ (f.variables < variable_of l) → clauses_with f.clauses l ≡ []

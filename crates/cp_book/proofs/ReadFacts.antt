@@ -1,14 +1,5 @@
 -- Lists that are read from the front.
-use Rattle.std.proofs.Common.{◌≡◌, ℕ, zero, suc, ◌+◌, ◌<◌, ◌≤◌, List, [], ◌∷◌, ◌++◌, length, take, drop, get_or, add-one, refl, sym, ap, subst, arith}
-
--- a read at an index, and what is behind it
-pub drop-at : {X : Type 0} (xs : List X) (i : ℕ) (x : X) → i < length xs → x ≡ get_or xs i x → drop i xs ≡ x ∷ drop (i + 1) xs
-drop-at {X} xs i x h e = subst (λ k. drop i xs ≡ x ∷ drop k xs) (sym (add-one i)) (by_suc xs i h e)
-  where
-    by_suc : (ys : List X) (k : ℕ) → k < length ys → x ≡ get_or ys k x → drop k ys ≡ x ∷ drop (suc k) ys
-    by_suc [] k h e = absurd (omega arith)
-    by_suc (y ∷ ys) zero h e = ap (λ z. z ∷ ys) (sym e)
-    by_suc (y ∷ ys) (suc k) h e = by_suc ys k (omega arith) e
+use Rattle.std.proofs.Common.{◌≡◌, ℕ, zero, suc, ◌+◌, ◌≤◌, List, [], ◌∷◌, ◌++◌, length, take, get_or, refl, sym, ap, subst, arith}
 
 pub take-whole : (xs : List ℕ) (k : ℕ) → k ≡ length xs → take k xs ≡ xs
 take-whole xs k e = subst (λ n. take n xs ≡ xs) (sym e) (all xs)

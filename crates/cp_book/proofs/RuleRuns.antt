@@ -16,8 +16,8 @@ use Rattle.cp_logic.proofs.Members.{none_in, in_cases, in_map, contains-in}
 use Rattle.cp_logic.proofs.LiteralFacts.{variable_of-positive, variable_of-negative}
 use Rattle.cp_logic.proofs.Ascending.{below_others}
 use Rattle.cp_logic.proofs.Expansions.{within_at, variable_within}
+use Rattle.cp_logic.proofs.ListFacts.{drop-at}
 use Rattle.cp_book.specs.Changes.{with_all}
-use Rattle.cp_book.proofs.ReadFacts.{drop-at}
 
 -- the parts of a run
 pub IsRun-split : (s : State) (rs qs : List Rule) → IsRun s (rs ++ qs) → IsRun s rs × IsRun (state_after s rs) qs

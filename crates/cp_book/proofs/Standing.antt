@@ -11,6 +11,7 @@ use Rattle.cp_logic.specs.Legality.{same_literals, stands}
 use Rattle.cp_logic.proofs.Members.{in_map}
 use Rattle.cp_logic.proofs.Ascending.{below_others}
 use Rattle.cp_logic.proofs.Parts.{stands-in}
+use Rattle.cp_logic.proofs.Changes.{or-false}
 
 -- whether the clause that was found is this one
 abbrev is_found : Option (List ℕ) → List ℕ → Bool
@@ -23,10 +24,6 @@ found_clause cs n = option_map (λ c. c.clause) (find_number cs n)
 -- a clause whose number is not there does not stand
 stands-absent : (cs : List Named) (c : Named) → (Contains (numbers_of cs) c.number → ⊥) → stands cs c ≡ false
 stands-absent cs c h = false_from_ne_true (stands cs c) (λ t. h (in_map (λ (d : Named). d.number) cs c (stands-in cs c t)))
-
-or-false : (a : Bool) → (a || false) ≡ a
-or-false true = refl
-or-false false = refl
 
 -- a clause stands exactly where its number finds its literals
 stands-found_clause : (cs : List Named) (c : Named) → IsAscending (numbers_of cs) → stands cs c ≡ is_found (found_clause cs c.number) c.clause

@@ -4,10 +4,9 @@ use Rattle.std.specs.Prelude.{◌==◌}
 use Rattle.std.specs.Option.{option_map, option_and_then}
 use Rattle.std.specs.List.{Contains, find, flat_map}
 use Rattle.std.proofs.lemmas.Bool.{and_parts, and_from, false≢true, eqb-true, eqb-false, eq-eqb, ne_eqb, not-true, not_from_false, false_from_ne_true, cases_eq}
-use Rattle.std.proofs.lemmas.List.Elements.{All-contains}
 use Rattle.cp_logic.specs.declared.named.Named.{Named}
 use Rattle.cp_logic.specs.Literals.{negated, positive, negative, variable_of}
-use Rattle.cp_logic.specs.Clauses.{contains, is_subset, is_tautology, has_variable, without}
+use Rattle.cp_logic.specs.Clauses.{contains, is_subset, is_tautology, without}
 use Rattle.cp_logic.specs.Entries.{Entry, Taut, Subsume, is_at}
 use Rattle.cp_logic.specs.Legality.{fits, tauts, subsumptions, strengthening, strengthenings, first_of_kind}
 use Rattle.cp_logic.proofs.Members.{in_map, of_map, all_from, contains-in, in_contains}
@@ -15,17 +14,10 @@ use Rattle.cp_logic.proofs.LiteralFacts.{variable_of-positive, variable_of-negat
 use Rattle.cp_logic.proofs.SetFacts.{subset-in, in_without, of_without}
 use Rattle.cp_logic.proofs.Parts.{IsStrengthen, taut-fits, subsume-fits, strengthen-fits}
 use Rattle.cp_logic.proofs.Locals.{same_bool, taut-from, subsume-from, strengthen-from}
-use Rattle.cp_occ.specs.Cells.{CellView, IsOf, IsCell}
+use Rattle.cp_logic.proofs.ListFacts.{find-one}
+use Rattle.cp_occ.proofs.Having.{AllHave}
 use Rattle.cp_find.specs.Finds.{subsumes, struck, turned, strengthens}
-use Rattle.cp_find.proofs.Scans.{first_some, find-images, find-lists, find-one, find-nothing, first_some-chosen, first_some-nothing}
-
--- each clause of the list has the variable
-abbrev pub AllHave : ℕ → List Named → Type 0
-AllHave x cs = (c : Named) → Contains cs c → has_variable x c.clause ≡ true
-
--- each clause of a cell has its variable
-pub cell-have : (cell : CellView) → IsCell cell → AllHave cell.variable cell.clauses
-cell-have cell v c i = (All-contains (IsOf cell.variable) cell.clauses c v.have i).has
+use Rattle.cp_find.proofs.Scans.{first_some, find-images, find-lists, find-nothing, first_some-chosen, first_some-nothing}
 
 -- ---- tautologies
 

@@ -12,14 +12,11 @@ use Rattle.cp_logic.specs.Entries.{Entry, Taut, Subsume, Block, is_at}
 use Rattle.cp_logic.specs.Legality.{fits, applies, tauts, subsumptions, strengthening, strengthenings, blocks, elimination, candidates, first_in, first, first_of_kind}
 use Rattle.cp_logic.proofs.Members.{in_here, in_later, in_cases, none_in, of_map, of_flat_map}
 use Rattle.cp_logic.proofs.Locals.{find_none, first_in-local}
+use Rattle.cp_logic.proofs.ListFacts.{or-none}
 
 -- the answer of a kind, where its technique is chosen
 abbrev pub if_chosen : {X : Type 0} → Bool → Option X → Option X
 if_chosen b o = cond b o None
-
-or-none : {X : Type 0} (o : Option X) → option_or o None ≡ o
-or-none None = refl
-or-none (Some x) = refl
 
 -- a search with a test that asks for a choice besides
 find-chosen : {X : Type 0} (b : Bool) (p q : X → Bool) (xs : List X) → ((x : X) → Contains xs x → p x ≡ (b && q x)) → find p xs ≡ if_chosen b (find q xs)

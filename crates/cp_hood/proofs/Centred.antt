@@ -9,12 +9,13 @@ use Rattle.cp_logic.specs.declared.settings.Rules.{Rules}
 use Rattle.cp_logic.specs.Literals.{variable_of, positive, negative, negated}
 use Rattle.cp_logic.specs.Clauses.{contains, resolvent}
 use Rattle.cp_logic.specs.Formulas.{variables_in}
-use Rattle.cp_logic.specs.Entries.{Entry, Taut, Subsume, Strengthen, Block, Eliminate, Look, old_clauses, new_clauses, gone_clauses, own_variables, variables_of, is_at, is_look, numbered}
+use Rattle.cp_logic.specs.Entries.{Entry, Taut, Subsume, Strengthen, Block, Eliminate, Look, old_clauses, new_clauses, own_variables, variables_of, is_at, is_look, numbered}
 use Rattle.cp_logic.specs.Legality.{is_legal_in}
-use Rattle.cp_logic.proofs.Members.{none_in, in_later, in_cases, in_map, of_map, in_flat_map, of_flat_map, of_filter}
+use Rattle.cp_logic.proofs.Members.{none_in, in_cases, in_map, of_map, in_flat_map, of_flat_map, of_filter}
 use Rattle.cp_logic.proofs.SetFacts.{in_clause_of, of_clause_of, of_without, of_resolvent}
 use Rattle.cp_logic.proofs.Parts.{IsEliminate, taut-parts, subsume-parts, strengthen-parts, block-parts, eliminate-parts}
 use Rattle.cp_logic.proofs.Complete.{applies-numbered}
+use Rattle.cp_logic.proofs.Others.{only}
 
 -- the variables of a list's clauses
 pub in_variables : (cs : List Named) (c : Named) (l : ℕ) → Contains cs c → Contains c.clause l → Contains (variables_in cs) (variable_of l)
@@ -25,9 +26,6 @@ pub of_variables : (cs : List Named) (y : ℕ) → Contains (variables_in cs) y 
 of_variables cs y i =
     let d = of_flat_map (λ (d : Named). map variable_of d.clause) cs y (of_clause_of (flat_map (λ (d : Named). map variable_of d.clause) cs) y i) in
     let l = of_map variable_of d.0.clause y d.2 in (d.0, l.0, d.1, l.1, l.2)
-
-only : (c d : Named) (cs : List Named) → Contains (d ∷ []) c → Contains cs d → Contains cs c
-only c d cs i j = elim (in_cases c d [] i) [ inl e ↦ subst (Contains cs) e j | inr z ↦ absurd (none_in c z) ]
 
 of_two : (c a b : Named) (cs : List Named) → Contains (a ∷ b ∷ []) c → Contains cs a → Contains cs b → Contains cs c
 of_two c a b cs i j k = elim (in_cases c a (b ∷ []) i) [ inl e ↦ subst (Contains cs) e j | inr z ↦ only c b cs z k ]
@@ -105,14 +103,6 @@ module _ (cs : List Named) (rules : Rules) where
       own (Look z) a o = absurd (false≢true a)
 
 -- what it removes it names as standing
-pub gone-old : (e : Entry) (c : Named) → Contains (gone_clauses e) c → Contains (old_clauses e) c
-gone-old (Taut gone) c i = i
-gone-old (Subsume by gone) c i = in_later c by (gone ∷ []) i
-gone-old (Strengthen by on l new) c i = in_later c by (on ∷ []) i
-gone-old (Block gone l) c i = i
-gone-old (Eliminate x pos neg new) c i = i
-gone-old (Look x) c i = i
-
 -- an entry at a variable is no look
 pub at-commit : (x : ℕ) (e : Entry) → is_at x e ≡ true → is_look e ≡ false
 at-commit x (Taut gone) a = refl

@@ -18,13 +18,14 @@ use Rattle.cp_logic.proofs.Members.{of_filter, in_map, contains-in, in_contains}
 use Rattle.cp_logic.proofs.Ascending.{same_number, below_others}
 use Rattle.cp_logic.proofs.Expansions.{below_at}
 use Rattle.cp_logic.proofs.Locals.{legal_in-local}
+use Rattle.cp_logic.proofs.Others.{gone-old}
 use Rattle.cp_occ.specs.Cells.{CellView, variables_of, lists_of}
 use Rattle.cp_occ.specs.Changes.{IsChange, lists_after}
 use Rattle.cp_occ.proofs.Posted.{new-numbers, new-rise}
 use Rattle.cp_yard.specs.Views.{Lock, held_of, locks_after}
 use Rattle.cp_yard.specs.Rule.{HoldsAll}
 use Rattle.cp_hood.specs.Hoods.{HoodView, IsHood, Covers, AreOccurrences, listed_of, clauses_at_home}
-use Rattle.cp_hood.proofs.Centred.{in_variables, of_variables, old-in, old-over, new-over, entry-over, gone-old, at-commit}
+use Rattle.cp_hood.proofs.Centred.{in_variables, of_variables, old-in, old-over, new-over, entry-over, at-commit}
 
 -- ---- what cells list
 

@@ -10,6 +10,7 @@ use Rattle.cp_logic.specs.Clauses.{contains, is_subset, without, clause_of, reso
 use Rattle.cp_logic.proofs.Members.{all_from, in_cases, in_here, in_later, none_in, contains-in, in_contains}
 use Rattle.cp_logic.proofs.Ascending.{below_others, IsAscending-cons, IsAscending-push, IsAscending-filter}
 use Rattle.cp_logic.proofs.SetFacts.{same_set, IsAscending-clause_of, of_clause_of, in_clause_of, subset-in, of_without}
+use Rattle.cp_logic.proofs.Locals.{same_bool}
 
 -- ---- one literal
 
@@ -27,12 +28,8 @@ contains-here x l xs e = in_contains (x ∷ xs) l (in_here l x xs e)
 
 -- ---- subsets
 
-same_answer : (a b : Bool) → (a ≡ true → b ≡ true) → (b ≡ true → a ≡ true) → a ≡ b
-same_answer true b h k = sym (h refl)
-same_answer false b h k = sym (false_from_ne_true b (λ e. false≢true (k e)))
-
 pub subset-found : (l m : ℕ) (ls ms : List ℕ) → IsAscending (l ∷ ls) → l ≡ m → is_subset (l ∷ ls) (m ∷ ms) ≡ is_subset ls ms
-subset-found l m ls ms a e = same_answer (is_subset (l ∷ ls) (m ∷ ms)) (is_subset ls ms)
+subset-found l m ls ms a e = same_bool (is_subset (l ∷ ls) (m ∷ ms)) (is_subset ls ms)
     (λ t. all_from (contains ms) ls (λ x i. elim (in_cases x m ms (subset-in (l ∷ ls) (m ∷ ms) t x (in_later x l ls i))) [
       | inl d ↦ let b : l < x = below_others l ls x a i in absurd (omega arith)
       | inr j ↦ in_contains ms x j
@@ -43,7 +40,7 @@ subset-found l m ls ms a e = same_answer (is_subset (l ∷ ls) (m ∷ ms)) (is_s
     ]))
 
 pub subset-later : (l m : ℕ) (ls ms : List ℕ) → IsAscending (l ∷ ls) → m < l → is_subset (l ∷ ls) (m ∷ ms) ≡ is_subset (l ∷ ls) ms
-subset-later l m ls ms a h = same_answer (is_subset (l ∷ ls) (m ∷ ms)) (is_subset (l ∷ ls) ms)
+subset-later l m ls ms a h = same_bool (is_subset (l ∷ ls) (m ∷ ms)) (is_subset (l ∷ ls) ms)
     (λ t. all_from (contains ms) (l ∷ ls) (λ x i. elim (in_cases x m ms (subset-in (l ∷ ls) (m ∷ ms) t x i)) [
       | inl d ↦ elim (in_cases x l ls i) as (λ _. contains ms x ≡ true) [
         | inl e ↦ absurd (omega arith)

@@ -1,4 +1,5 @@
 pub mod Numbered
+pub mod Having
 pub mod Entered
 pub mod Changed
 pub mod Posted

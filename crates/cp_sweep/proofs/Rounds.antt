@@ -5,7 +5,7 @@ use Rattle.std.specs.Option.{option_or}
 use Rattle.std.proofs.lemmas.List.Folds.{find-append}
 use Rattle.std.proofs.lemmas.List.Elements.{Contains-append_cases}
 use Rattle.cp_logic.specs.Sweeps.{variables_from}
-use Rattle.cp_logic.proofs.Locals.{find_none}
+use Rattle.cp_logic.proofs.Locals.{find_none, none_or}
 use Rattle.cp_occ.proofs.Posted.{of_range}
 
 -- ---- ranges
@@ -24,9 +24,6 @@ split (suc n) a b m (suc whole) e s = ap (λ xs. a ∷ xs) (split n (a + 1) b m 
 
 -- ---- the first of two lists
 
-or-left : {X : Type 0} (o d : Option X) → o ≡ None → option_or o d ≡ d
-or-left o d e = ap (λ z. option_or z d) e
-
 or-right : {X : Type 0} (o d : Option X) → d ≡ None → option_or o d ≡ o
 or-right None d e = e
 or-right (Some x) d e = refl
@@ -36,7 +33,7 @@ module _ (p : ℕ → Bool) where
   none a n h = find_none p (range_with_len a n) (λ k i. let r = of_range n a k i in h k r.0 r.1)
 
   skip : (xs ys : List ℕ) → find p xs ≡ None → find p (xs ++ ys) ≡ find p ys
-  skip xs ys e = find-append p xs ys ∙ or-left (find p xs) (find p ys) e
+  skip xs ys e = find-append p xs ys ∙ none_or (find p xs) (find p ys) e
 
   cut : (xs ys : List ℕ) → find p ys ≡ None → find p (xs ++ ys) ≡ find p xs
   cut xs ys e = find-append p xs ys ∙ or-right (find p xs) (find p ys) e

@@ -1,5 +1,5 @@
 -- What a post leaves at a variable: where it doesn't touch the variable, what is applicable there stays.
-use Rattle.std.proofs.Common.{◌≡◌, ℕ, ◌≤◌, Bool, true, false, cond, not, List, [], ◌∷◌, ◌++◌, map, None, refl, sym, ◌∙◌, ap, subst, inl, inr, arith}
+use Rattle.std.proofs.Common.{◌≡◌, ℕ, ◌≤◌, Bool, true, false, cond, not, List, [], ◌++◌, map, None, refl, sym, ◌∙◌, ap, subst, inl, inr, arith}
 use Rattle.std.specs.Prelude.{◌==◌}
 use Rattle.std.specs.List.{Contains}
 use Rattle.std.specs.Option.{option_map}
@@ -14,11 +14,12 @@ use Rattle.cp_logic.specs.Formulas.{Formula, IsFormula, IsWithin, numbers_of, wi
 use Rattle.cp_logic.specs.Rules.{State, state_after}
 use Rattle.cp_logic.specs.Entries.{Entry, expand, gone_clauses, new_clauses, numbered}
 use Rattle.cp_logic.specs.Legality.{first, first_in, is_legal}
-use Rattle.cp_logic.proofs.Members.{in_map, of_map, in_flat_map, of_flat_map, in_here, any_member, contains-in, of_filter}
+use Rattle.cp_logic.proofs.Members.{in_map, of_map, in_flat_map, of_flat_map, any_member, contains-in, of_filter}
 use Rattle.cp_logic.proofs.Ascending.{same_number}
 use Rattle.cp_logic.proofs.Eliminations.{filter_all}
 use Rattle.cp_logic.proofs.Expansions.{within_at, variable_within}
 use Rattle.cp_logic.proofs.Changes.{change-local}
+use Rattle.cp_logic.proofs.SetFacts.{no_members}
 use Rattle.cp_occ.proofs.Posted.{legal-replaces}
 use Rattle.cp_find.proofs.Searches.{first-from_cell}
 use Rattle.cp_eliminate.proofs.Exact.{search-first}
@@ -30,10 +31,6 @@ has-at : (cs : List Named) (c : Named) (x : ℕ) → Contains cs c → has_varia
 has-at cs c x i t =
     let l = any_member (λ k. variable_of k == x) c.clause t in
     in_flat_map variables_at cs c x i (subst (Contains (map variable_of c.clause)) (eqb-true (variable_of l.0) x l.2) (in_map variable_of c.clause l.0 l.1))
-
-no_named : (cs : List Named) → ((c : Named) → Contains cs c → ⊥) → cs ≡ []
-no_named [] h = refl
-no_named (c ∷ cs) h = absurd (h c (in_here c c cs refl))
 
 -- ---- a legal entry
 
@@ -70,7 +67,7 @@ module _ (s : State) (rules : Rules) (e : Entry) (w : IsFormula s.formula) (lega
       ∙ filter_all (λ (c : Named). not (contains (numbers_of (gone_clauses e)) c.number)) (occurrences s.formula.clauses x) kept
     where
       none : occurrences (new_clauses e) x ≡ []
-      none = no_named (occurrences (new_clauses e) x) (λ c i.
+      none = no_members (occurrences (new_clauses e) x) (λ c i.
           let r = of_filter (λ (c : Named). has_variable x c.clause) (new_clauses e) c i in
           o (Contains-append_right (variables_through (gone_clauses e)) (variables_through (new_clauses e)) x (has-at (new_clauses e) c x r.0 r.1)))
 

@@ -3,9 +3,11 @@ use Rattle.std.specs.Option.{option_map}
 use Rattle.std.specs.List.{find}
 use Rattle.cp_logic.specs.declared.named.Named.{Named}
 use Rattle.cp_logic.specs.Entries.{Block}
+use Rattle.cp_logic.proofs.ListFacts.{find-here}
 use Rattle.cp_blocked.specs.Finds.{literal_at, is_blocked_at}
-use Rattle.cp_blocked.proofs.Firsts.{blocked-against, first-blocked, first-none, cell-have}
-use Rattle.cp_blocked.proofs.Scans.{find-here, find-later}
+use Rattle.cp_blocked.proofs.Firsts.{blocked-against, first-blocked, first-none}
+use Rattle.cp_occ.proofs.Having.{cell-have}
+use Rattle.cp_blocked.proofs.Scans.{find-later}
 use Rattle.cp_blocked.proofs.blocking.first_blocked.Goals as goal
 
 pub returns-then-has_tautology : goal.returns-then-has_tautology

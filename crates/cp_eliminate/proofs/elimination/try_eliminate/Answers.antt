@@ -4,7 +4,7 @@ use Rattle.cp_logic.specs.declared.named.Named.{Named}
 use Rattle.cp_logic.specs.Literals.{positive, negative}
 use Rattle.cp_logic.specs.Entries.{Eliminate, numbered_from}
 use Rattle.cp_logic.specs.Legality.{resolvents}
-use Rattle.cp_find.proofs.Firsts.{cell-have}
+use Rattle.cp_occ.proofs.Having.{cell-have}
 use Rattle.cp_eliminate.specs.Eliminating.{is_within}
 use Rattle.cp_eliminate.specs.Resolvents.{Has}
 use Rattle.cp_eliminate.proofs.Fitting.{tautology-at, none-tautology, none-beyond, some-within, have-literal}

@@ -4,7 +4,8 @@ use Rattle.std.specs.List.{find}
 use Rattle.cp_logic.specs.declared.named.Named.{Named}
 use Rattle.cp_logic.specs.Entries.{Subsume}
 use Rattle.cp_find.specs.Finds.{subsumes}
-use Rattle.cp_find.proofs.Firsts.{first-subsumed, subsumption_by, cell-have}
+use Rattle.cp_find.proofs.Firsts.{first-subsumed, subsumption_by}
+use Rattle.cp_occ.proofs.Having.{cell-have}
 use Rattle.cp_find.proofs.Scans.{first_some, some-here}
 use Rattle.cp_find.proofs.subsumption.subsumed_in.Goals as goal
 

@@ -4,8 +4,9 @@ use Rattle.std.specs.List.{find}
 use Rattle.cp_logic.specs.declared.named.Named.{Named}
 use Rattle.cp_logic.specs.Clauses.{is_tautology}
 use Rattle.cp_logic.specs.Entries.{Taut}
-use Rattle.cp_find.proofs.Firsts.{first-taut, cell-have}
-use Rattle.cp_find.proofs.Scans.{find-here}
+use Rattle.cp_logic.proofs.ListFacts.{find-here}
+use Rattle.cp_find.proofs.Firsts.{first-taut}
+use Rattle.cp_occ.proofs.Having.{cell-have}
 use Rattle.cp_find.proofs.tautology.first_taut.Goals as goal
 
 pub returns-then-is_tautology : goal.returns-then-is_tautology
