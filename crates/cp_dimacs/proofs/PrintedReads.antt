@@ -94,10 +94,6 @@ abbrev words_laid : ℕ → List (List (List ℕ)) → List Word
 words_laid p [] = []
 words_laid p (line ∷ lines) = placed p line ++ words_laid (line_end p line + 1) lines
 
-abbrev end_laid : ℕ → List (List (List ℕ)) → ℕ
-end_laid p [] = p
-end_laid p (line ∷ lines) = end_laid (line_end p line + 1) lines
-
 clauses-read : (limits : Limits) (m n : ℕ) (clauses : List (List ℕ)) (p end : ℕ) → limits.variables < 2 ^ 32 → m + length clauses ≤ limits.clauses + 1 → n + sum_by length clauses ≤ limits.literals → All (IsWithin limits.variables) clauses
     → clauses_from limits m n [] (words_laid p (clause_lines clauses)) end ≡ Ok clauses
 clauses-read limits m n [] p end small few most h = refl

@@ -38,9 +38,6 @@ with_clauses-is v n ds (c ∷ cs) =
 abbrev pub nothing : ℕ → Formula
 nothing v = record { variables = v; next = 1; clauses = [] }
 
-pub formula_of-none : (v : ℕ) → formula_of v [] ≡ nothing v
-formula_of-none v = same_formula (max v 0) v (0 + 1) 1 [] [] (omega arith) (omega arith) refl
-
 formula_of-is : (v : ℕ) (cs : List (List ℕ)) → formula_of v cs ≡ with_clauses (nothing v) cs
 formula_of-is v cs = same_formula (max v (greatest_in cs)) (max v (greatest_in cs)) (length cs + 1) (1 + length cs) (numbered_from 1 cs) (numbered_from 1 cs) refl (omega arith) refl ∙ sym (with_clauses-is v 1 [] cs)
 

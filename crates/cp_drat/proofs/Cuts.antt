@@ -56,9 +56,6 @@ has_end-ended (i ∷ is) js some = go (is_end i) some (has_end-ended is js)
     go true n more = refl
     go false n more = more n
 
-pub has_end-end : (i : Item) (is : List Item) → is_end i ≡ true → has_end (i ∷ is) ≡ true
-has_end-end i is end = ap (λ b. b || has_end is) end
-
 pub has_end-next : (i : Item) (is : List Item) → is_end i ≡ false → has_end (i ∷ is) ≡ has_end is
 has_end-next i is more = ap (λ b. b || has_end is) more
 

@@ -5,7 +5,6 @@ use Rattle.std.proofs.lemmas.List.FromFn.{length-map-range_with_len}
 use Rattle.cp_io.specs.declared.limits.Limits.{Limits}
 use Rattle.cp_text.specs.Cut.{lines_within}
 use Rattle.cp_text.proofs.Cuts.{sees-within}
-use Rattle.cp_extend.specs.declared.refusal.ModelRefusal.{ModelRefusal}
 use Rattle.cp_extend.specs.declared.refusal.Stop.{Stop}
 use Rattle.cp_extend.specs.Grammar.{Given, is_value, values_of, nothing_read, document, answer, model_reads}
 

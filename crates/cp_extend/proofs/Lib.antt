@@ -1,4 +1,3 @@
-pub mod Answers
 pub mod Completions
 pub mod Lengths
 pub mod Lines
@@ -8,4 +7,5 @@ pub mod PrintedReads
 pub mod ReadingRows
 pub mod Rows
 pub mod Steps
+pub mod TextAnswers
 pub mod Values

@@ -1,6 +1,6 @@
 -- The lines of a model, a literal and a line at a time.
-use Rattle.std.proofs.Common.{◌≡◌, ℕ, suc, ◌+◌, ◌-◌, ◌*◌, ◌/◌, ◌%◌, min, ◌<◌, ◌≤◌, Bool, false, List, [], ◌++◌, length, take, drop, get_or, sym, ◌∙◌, ap, arith}
-use Rattle.std.proofs.lemmas.List.{drop_more, drop-drop, length-drop, take_min}
+use Rattle.std.proofs.Common.{◌≡◌, ℕ, suc, ◌+◌, ◌-◌, ◌*◌, ◌<◌, ◌≤◌, Bool, false, List, [], ◌++◌, length, take, drop, get_or, sym, ◌∙◌, ap, arith}
+use Rattle.std.proofs.lemmas.List.{drop_more, drop-drop}
 use Rattle.cp_logic.specs.Assignments.{value_of}
 use Rattle.cp_logic.proofs.Values.{value_of-place}
 use Rattle.cp_extend.specs.ModelText.{value_text, values_text, line_text, lines_text}
@@ -8,13 +8,6 @@ use Rattle.cp_extend.specs.ModelText.{value_text, values_text, line_text, lines_
 -- the literals of a line that ends at the last variable, behind those of the first i variables
 abbrev pub line_left : List Bool → ℕ → ℕ → List ℕ
 line_left values last i = values_text (i + 1) (take (last - i) (drop i values))
-
-pub line_left-first : (values : List Bool) (before last : ℕ) → last ≡ before + min 10 (length values - before)
-    → line_left values last before ≡ values_text (before + 1) (take 10 (drop before values))
-line_left-first values before last e =
-    let long : length (drop before values) ≡ length values - before = length-drop before values in
-    let is : last - before ≡ min 10 (length (drop before values)) = omega (arith, e, long) in
-    ap (λ n. values_text (before + 1) (take n (drop before values))) is ∙ ap (values_text (before + 1)) (take_min 10 (drop before values))
 
 pub line_left-next : (values : List Bool) (last i : ℕ) → i < last → last ≤ length values
     → line_left values last i ≡ value_text (i + 1) (value_of values (i + 1)) ++ line_left values last (i + 1)
@@ -35,12 +28,6 @@ line_left-none values last i h =
 -- so many lines, behind the first k of them
 abbrev pub lines_left : List Bool → ℕ → ℕ → List ℕ
 lines_left values lines k = lines_text (lines - k) (10 * k + 1) (drop (10 * k) values)
-
-pub lines_left-first : (values : List Bool) (lines : ℕ) → lines ≡ length values / 10 + min 1 (length values % 10)
-    → lines_left values lines 0 ≡ lines_text ((length values + 9) / 10) 1 values
-lines_left-first values lines e =
-    let is : lines - 0 ≡ (length values + 9) / 10 = omega (arith, e) in
-    ap (λ n. lines_text n 1 values) is
 
 pub lines_left-next : (values : List Bool) (lines k : ℕ) → k < lines
     → lines_left values lines k ≡ line_text (10 * k + 1) (take 10 (drop (10 * k) values)) ++ lines_left values lines (k + 1)

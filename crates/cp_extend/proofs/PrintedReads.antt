@@ -9,7 +9,7 @@ use Rattle.cp_extend.specs.ModelText.{model_text}
 use Rattle.cp_text.specs.Cut.{lines_within}
 use Rattle.cp_text.specs.Text.{lines_from}
 use Rattle.cp_extend.specs.Grammar as model
-use Rattle.cp_extend.specs.Grammar.{Given, Reading, nothing_given, nothing_read, with_literal, is_value, contradicts, values_of, number_at, document, model_reads}
+use Rattle.cp_extend.specs.Grammar.{Given, Reading, nothing_given, with_literal, is_value, values_of, document, model_reads}
 use Rattle.cp_extend.specs.Laws.{ReadsPrinted}
 use Rattle.cp_extend.specs.declared.refusal.ModelRefusal.{ModelRefusal}
 use Rattle.cp_extend.specs.declared.refusal.Stop.{Stop}

@@ -13,11 +13,11 @@ use Rattle.cp_text.specs.Text.{Word, Line}
 use Rattle.cp_text.specs.declared.numbers.Number.{Number}
 use Rattle.cp_text.proofs.WordFronts.{some_line_from}
 use Rattle.cp_extend.specs.declared.refusal.ModelKind.TheVariants.{BadWord, BadStatus}
-use Rattle.cp_extend.specs.declared.refusal.ModelRefusal.TheVariants.{TooLarge, NoModel}
+use Rattle.cp_extend.specs.declared.refusal.ModelRefusal.TheVariants.{TooLarge}
 use Rattle.cp_extend.specs.declared.refusal.Stop.{Stop}
 use Rattle.cp_extend.specs.declared.parsing.LineStop.{LineStop}
-use Rattle.cp_extend.specs.Grammar.{◌>>=◌, Given, Reading, fault, begins_with, unended, with_status, value_words, status_words, document}
-use Rattle.cp_extend.specs.Steps.{TakesWord, GoesOn, ReadsLines, SaysModel, EndsStatus, SkipsLine, in_values, in_status, behind_line, behind_stop}
+use Rattle.cp_extend.specs.Grammar.{◌>>=◌, Given, Reading, fault, begins_with, unended, value_words, status_words, document}
+use Rattle.cp_extend.specs.Steps.{TakesWord, GoesOn, ReadsLines, SaysModel, EndsStatus, in_values, in_status, behind_line}
 
 -- words in front of the first line
 abbrev pub with_words : List Word → List Line → List Line
@@ -106,16 +106,6 @@ status-longer limits cut r new w lines after has_model stop is some says ends = 
     by_lines [] e = let none : after ≡ [] = ends.2 ∙ ap (with_word ends.0) e in absurd (cc (none, some.2))
     by_lines (line ∷ behind) e = λ _. rw (is, ends.2, e, ends.3) (two_words limits r w ends.0 line behind has_model says)
 
--- there is no model
-pub status-none : (limits : Limits) (cut : Bool) (r : Reading) (w : Word) (lines after : List Line) (stop : LineStop) → lines ≡ with_word w after → SaysModel w (Ok false) → EndsStatus cut after (Ok stop)
-    → in_status limits r lines ≡ Err (record { at = stop.at; refusal = NoModel })
-status-none limits cut r w lines after stop is says ends = rw (is, ends, says.0, says.1) refl
-
--- there is one
-pub status-some : (limits : Limits) (cut : Bool) (r : Reading) (w : Word) (lines after : List Line) (stop : LineStop) → lines ≡ with_word w after → SaysModel w (Ok true) → EndsStatus cut after (Ok stop)
-    → in_status limits r lines ≡ behind_stop limits cut (with_status r) stop
-status-some limits cut r w lines after stop is says ends = rw (is, ends, says) refl
-
 -- ---- the first word of a line
 
 pub begins : (b : ℕ) (bytes : List ℕ) → 0 < length bytes → get_or bytes 0 0 ≡ b → begins_with b bytes ≡ true
@@ -130,10 +120,6 @@ begins_not b (c ∷ bytes) apart = grind (arith, nat_tests)
 pub record BeginsLine (lines : List Line) (w : Word) (after : List Line) : Type 0 where
   pub is : lines ≡ with_word w after
   pub some : HasLine after
-
-pub line-comment : (limits : Limits) (cut : Bool) (r : Reading) (lines after : List Line) (w : Word) (stop : LineStop) → BeginsLine lines w after → begins_with 99 w.bytes ≡ true → SkipsLine cut after stop
-    → (e : ℕ) → document limits r e lines ≡ behind_stop limits cut r stop
-line-comment limits cut r lines after w stop h comment skips e = rw (h.is, skips.1, comment) refl
 
 pub line-values : (limits : Limits) (r : Reading) (lines after : List Line) (w : Word) → BeginsLine lines w after → begins_with 99 w.bytes ≡ false → bytes_eq w.bytes (codes "v") ≡ true
     → (e : ℕ) → document limits r e lines ≡ in_values limits r after

@@ -1,6 +1,5 @@
 -- The lines of a text, item by item.
-use Rattle.std.proofs.Common.{◌≡◌, ℕ, ◌+◌, arith, cond, Bool, true, false, List, [], ◌∷◌, length, map, Ok, refl, sym, ◌∙◌, ap}
-use Rattle.std.proofs.lemmas.Bool.{ne_eqb}
+use Rattle.std.proofs.Common.{◌≡◌, ℕ, ◌+◌, Bool, true, false, List, [], ◌∷◌, length, map, Ok, refl, sym, ◌∙◌, ap}
 use Rattle.cp_text.specs.Text.{Word, Line}
 use Rattle.cp_text.specs.Cut.{lines_seen, words_before}
 use Rattle.cp_text.specs.Items.{with_word}
@@ -24,13 +23,6 @@ next_word-word w lines rest is some = ap (λ (ls : List Line). let t : Taken = r
 pub from_words-empty : (at : ℕ) (lines rest : List Line) → lines ≡ record { words = []; end = at } ∷ rest → HasLine rest → from_words lines ≡ from_words rest
 from_words-empty at lines rest is some =
     ap from_words (is ∙ ap (λ (ls : List Line). let line : Line = record { words = []; end = at } in line ∷ ls) some.2) ∙ ap from_words (sym some.2)
-
-pub from_words-word : (w : Word) (lines rest : List Line) → lines ≡ with_word w rest → HasLine rest → from_words lines ≡ lines
-from_words-word w lines rest is some = let all = is ∙ ap (with_word w) some.2 in ap from_words all ∙ first some.1 ∙ sym all
-  where
-    first : (behind : List Line) → from_words (with_word w (some.0 ∷ behind)) ≡ with_word w (some.0 ∷ behind)
-    first [] = refl
-    first (next ∷ behind) = ap (λ b. cond b (from_words (next ∷ behind)) (with_word w (some.0 ∷ (next ∷ behind)))) (ne_eqb (length (w ∷ some.0.words)) 0 (omega arith))
 
 pub no_word-word : (w : Word) (lines rest : List Line) → lines ≡ with_word w rest → HasLine rest → bad w.at BadHeader ≡ no_word lines
 no_word-word w lines rest is some = sym (ap no_word (is ∙ ap (with_word w) some.2))

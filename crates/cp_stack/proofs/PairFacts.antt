@@ -1,9 +1,6 @@
 -- The literals of a pair and their clause.
-use Rattle.std.proofs.Common.{◌≡◌, ℕ, ◌+◌, ◌<◌, ◌≤◌, true, ltb, Bool, List, [], ◌∷◌, ◌++◌, length, get_or, refl, ◌∙◌, arith}
-use Rattle.std.specs.List.{list_all}
-use Rattle.std.proofs.lemmas.Bool.{lt-ltb, and_from}
+use Rattle.std.proofs.Common.{◌≡◌, ℕ, ◌+◌, ◌<◌, true, ltb, List, [], ◌∷◌, length, get_or, arith}
 use Rattle.std.proofs.lemmas.List.Elements.{Contains-get_or}
-use Rattle.std.proofs.lemmas.List.Folds.{list_all-append}
 use Rattle.cp_logic.specs.Literals.{variable_of}
 use Rattle.cp_logic.specs.Clauses.{contains, clause_of}
 use Rattle.cp_logic.specs.Formulas.{IsWithin}
@@ -24,14 +21,4 @@ pub within-clause_of : (variables : ℕ) (literals : List ℕ) → IsWithin vari
 within-clause_of variables literals h = (
   all_from (λ l. ltb 0 (variable_of l)) (clause_of literals) (λ l m. all_at (λ l. ltb 0 (variable_of l)) literals l h.0 (of_clause_of literals l m)),
   all_from (λ l. ltb (variable_of l) (variables + 1)) (clause_of literals) (λ l m. all_at (λ l. ltb (variable_of l) (variables + 1)) literals l h.1 (of_clause_of literals l m)),
-)
-
-all_push : (p : ℕ → Bool) (literals : List ℕ) (l : ℕ) → list_all p literals ≡ true → p l ≡ true → list_all p (literals ++ l ∷ []) ≡ true
-all_push p literals l before here = list_all-append p literals (l ∷ []) ∙ and_from (list_all p literals) (list_all p (l ∷ [])) before (and_from (p l) true here refl)
-
--- one literal more
-pub within-push : (variables : ℕ) (literals : List ℕ) (l : ℕ) → IsWithin variables literals → 0 < variable_of l → variable_of l ≤ variables → IsWithin variables (literals ++ l ∷ [])
-within-push variables literals l h low high = (
-  all_push (λ l. ltb 0 (variable_of l)) literals l h.0 (lt-ltb 0 (variable_of l) low),
-  all_push (λ l. ltb (variable_of l) (variables + 1)) literals l h.1 (lt-ltb (variable_of l) (variables + 1) (omega arith)),
 )

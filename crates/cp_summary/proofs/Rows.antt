@@ -1,9 +1,8 @@
 -- The summary of a small run, and what a formula with the empty clause is counted as.
-use Rattle.std.proofs.Common.{◌≡◌, ℕ, List, [], ◌∷◌, None, Some, refl}
+use Rattle.std.proofs.Common.{◌≡◌, ℕ, List, [], ◌∷◌, None, refl}
 use Rattle.std.specs.Prelude.{codes}
 use Rattle.std.specs.Fmt.{digits}
 use Rattle.cp_logic.specs.declared.named.Named.{Named}
-use Rattle.cp_logic.specs.declared.settings.Stop.TheVariants.{Refuted}
 use Rattle.cp_logic.specs.Entries.{Entry, Taut, Block}
 use Rattle.cp_logic.specs.Journals.{Post}
 use Rattle.cp_summary.specs.Text.{summary_text, reduced_text, printed_sizes, sizes_of}

@@ -4,7 +4,7 @@ use Rattle.cp_logic.specs.declared.named.Named.{Named}
 use Rattle.cp_logic.specs.declared.settings.Stop.{Stop}
 use Rattle.cp_logic.specs.declared.settings.Stop.TheVariants.{Spent, Numbers, Refuted}
 use Rattle.cp_logic.specs.Formulas.{Formula, has_empty}
-use Rattle.cp_logic.specs.Entries.{Entry, Taut, Subsume, Strengthen, Block, Eliminate, Look}
+use Rattle.cp_logic.specs.Entries.{Entry, Taut, Subsume, Strengthen, Block, Eliminate}
 use Rattle.cp_logic.specs.Journals.{Post}
 use Rattle.cp_summary.specs.declared.sizes.Sizes.{Sizes}
 use Rattle.cp_summary.specs.declared.kinds.Kind.{Kind}

@@ -10,10 +10,6 @@ or_false : (a b : Bool) → (a || b) ≡ false → (a ≡ false) × (b ≡ false
 or_false true b e = absurd cc
 or_false false b e = (refl, e)
 
-or_true : (a b : Bool) → (a || b) ≡ true → a ≡ false → b ≡ true
-or_true true b e f = absurd cc
-or_true false b e f = e
-
 -- the first word of the first line, if there is one, begins at this place or behind it
 abbrev WordsFrom : ℕ → List Word → Type 0
 WordsFrom p [] = Unit {0}

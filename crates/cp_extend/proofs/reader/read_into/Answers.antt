@@ -1,7 +1,7 @@
 use Rattle.std.proofs.Common.{Bool, List, length, Ok, sym, ◌∙◌, ap}
 use Rattle.cp_text.specs.Cut.{lines_seen}
 use Rattle.cp_extend.specs.Held.{reading_of}
-use Rattle.cp_extend.proofs.Answers.{reads-lines, answers-stop}
+use Rattle.cp_extend.proofs.TextAnswers.{reads-lines, answers-stop}
 use Rattle.cp_extend.proofs.reader.read_into.Goals as goal
 
 pub returns-in-Err : goal.returns-in-Err
