@@ -1,19 +1,13 @@
 -- The variables of literals and of their clause.
-use Rattle.std.proofs.Common.{◌≡◌, ℕ, ◌+◌, ◌<◌, ◌≤◌, true, ltb, List, [], ◌∷◌, length, take, get_or, refl, ◌∙◌, ap, arith}
+use Rattle.std.proofs.Common.{◌≡◌, ℕ, ◌+◌, ◌≤◌, true, ltb, List, [], ◌∷◌, refl, arith}
 use Rattle.std.specs.List.{list_all}
 use Rattle.std.proofs.lemmas.Bool.{lt-ltb, and_from}
-use Rattle.std.proofs.lemmas.List.{take_more}
-use Rattle.std.proofs.lemmas.List.Folds.{list_all-append}
 use Rattle.cp_logic.specs.Literals.{variable_of}
 use Rattle.cp_logic.specs.Clauses.{clause_of}
 use Rattle.cp_logic.specs.Formulas.{IsWithin}
 use Rattle.cp_logic.proofs.Members.{all_at, all_from}
 use Rattle.cp_logic.proofs.SetFacts.{of_clause_of}
 use Rattle.cp_dimacs.specs.Written.{greatest_of}
-
--- one more element passes
-pub all_more : {X : Type 0} (p : X → Rattle.std.proofs.Common.Bool) (xs : List X) (i : ℕ) (d : X) → i < length xs → list_all p (take i xs) ≡ true → p (get_or xs i d) ≡ true → list_all p (take (i + 1) xs) ≡ true
-all_more p xs i d low before here = ap (list_all p) (take_more xs i d low) ∙ list_all-append p (take i xs) (get_or xs i d ∷ []) ∙ and_from (list_all p (take i xs)) (list_all p (get_or xs i d ∷ [])) before (and_from (p (get_or xs i d)) true here refl)
 
 below_greatest : (most : ℕ) (literals : List ℕ) → greatest_of literals ≤ most → list_all (λ l. ltb (variable_of l) (most + 1)) literals ≡ true
 below_greatest most [] h = refl

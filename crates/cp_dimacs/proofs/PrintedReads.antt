@@ -1,5 +1,5 @@
 -- A printed formula is read as its clauses.
-use Rattle.std.proofs.Common.{◌≡◌, ℕ, zero, suc, ◌+◌, ◌%◌, ◌^◌, ◌<◌, ◌≤◌, max, Bool, true, false, eqb, leb, ltb, cond, List, [], ◌∷◌, ◌++◌, length, get_or, sum_by, Result, Ok, refl, sym, ◌∙◌, ap, arith, append_assoc}
+use Rattle.std.proofs.Common.{◌≡◌, ℕ, zero, suc, ◌+◌, ◌%◌, ◌^◌, ◌<◌, ◌≤◌, max, Bool, true, false, eqb, leb, ltb, cond, List, [], ◌∷◌, ◌++◌, length, get_or, map, sum_by, Result, Ok, refl, sym, ◌∙◌, ap, arith, append_assoc}
 use Rattle.std.specs.Prelude.{codes, decimal}
 use Rattle.std.specs.List.{All}
 use Rattle.std.specs.Char.{is_ascii_digit}
@@ -12,17 +12,18 @@ use Rattle.std.proofs.lemmas.List.Sums.{sum_by-cons}
 use Rattle.cp_io.specs.declared.limits.Limits.{Limits}
 use Rattle.cp_logic.specs.declared.named.Named.{Named}
 use Rattle.cp_logic.specs.Literals.{positive, negative, variable_of, is_positive}
-use Rattle.cp_logic.specs.Clauses.{IsAscending}
+use Rattle.cp_logic.specs.Clauses.{clause_of, IsAscending}
+use Rattle.cp_logic.specs.Entries.{numbered_from, renumbered}
 use Rattle.cp_logic.specs.Formulas.{Formula, IsFormula, IsWithin, clauses_of, has_empty}
 use Rattle.cp_logic.proofs.Expansions.{within_smaller, variable_within}
 use Rattle.cp_logic.proofs.Members.{in_here, in_later}
 use Rattle.cp_logic.proofs.SortedClauses.{ascending-clause_of}
 use Rattle.cp_dimacs.specs.Cnf.{cnf_text}
-use Rattle.cp_dimacs.specs.Written.{formula_of, numbered_from, greatest_of, greatest_in}
-use Rattle.cp_text.specs.Text.{Word, Line, lines_from}
-use Rattle.cp_dimacs.specs.Grammar.{◌>>=◌, begins_with, Body, body, header, clauses_from, document, judged, reads}
+use Rattle.cp_dimacs.specs.Written.{formula_of, greatest_of, greatest_in}
+use Rattle.cp_text.specs.Text.{Word, Line, begins_with, lines_from}
+use Rattle.cp_dimacs.specs.Grammar.{◌>>=◌, Body, body, header, clauses_from, document, judged, reads}
 use Rattle.cp_dimacs.specs.declared.refusal.CnfRefusal.{CnfRefusal}
-use Rattle.cp_dimacs.specs.Laws.{renumbered, as_printed, ReadsPrinted}
+use Rattle.cp_dimacs.specs.Laws.{as_printed, ReadsPrinted}
 use Rattle.cp_text.proofs.Printed.{AreWords, AreLines, literal_word, literal-is_word, decimal-is_word, decimal-all_digits, number_of-literal_word, number_of-decimal, lines_text, laid, placed, placed_after, line_end, lines_from-printed}
 use Rattle.cp_dimacs.proofs.PrintedLines.{word_of, clause_line, clause_lines, header_line, cnf-lines, empty-lines}
 
@@ -158,10 +159,10 @@ greatest-in : (variables : ℕ) (clauses : List (List ℕ)) → All (IsWithin va
 greatest-in variables [] h = omega arith
 greatest-in variables (ls ∷ clauses) h = omega (arith, greatest-within variables ls (h 0 ls (omega arith)), greatest-in variables clauses (λ k d low. h (suc k) d (omega arith)))
 
-numbered-again : (n : ℕ) (cs : List Named) → All (λ (c : Named). IsAscending c.clause) cs → numbered_from n (clauses_of cs) ≡ renumbered n cs
+numbered-again : (n : ℕ) (cs : List Named) → All (λ (c : Named). IsAscending c.clause) cs → numbered_from n (map clause_of (clauses_of cs)) ≡ renumbered n cs
 numbered-again n [] h = refl
 numbered-again n (c ∷ cs) h =
-    ap (λ (clause : List ℕ). record { number = n; clause = clause } ∷ numbered_from (n + 1) (clauses_of cs)) (sym (ascending-clause_of c.clause (h 0 c (omega arith))))
+    ap (λ (clause : List ℕ). record { number = n; clause = clause } ∷ numbered_from (n + 1) (map clause_of (clauses_of cs))) (sym (ascending-clause_of c.clause (h 0 c (omega arith))))
     ∙ ap (λ (ds : List Named). record { number = n; clause = c.clause } ∷ ds) (numbered-again (n + 1) cs (λ k d low. h (suc k) d (omega arith)))
 
 formula-again : (f : Formula) → IsFormula f → All (IsWithin f.variables) (clauses_of f.clauses) → formula_of f.variables (clauses_of f.clauses) ≡ record { variables = f.variables; next = length f.clauses + 1; clauses = renumbered 1 f.clauses }

@@ -1,9 +1,10 @@
 -- From the reading of the lines behind a header to what an input reads as.
-use Rattle.std.proofs.Common.{◌≡◌, ℕ, ◌+◌, max, Bool, true, false, List, [], ◌∷◌, ◌++◌, length, take, Result, Ok, Err, refl, sym, ◌∙◌, ap, subst, append_assoc, arith}
+use Rattle.std.proofs.Common.{◌≡◌, ℕ, ◌+◌, max, Bool, true, false, List, [], ◌∷◌, ◌++◌, length, map, take, Result, Ok, Err, refl, sym, ◌∙◌, ap, subst, append_assoc, arith}
 use Rattle.std.proofs.lemmas.List.{append-nil}
 use Rattle.cp_io.specs.declared.limits.Limits.{Limits}
 use Rattle.cp_logic.specs.declared.named.Named.{Named}
 use Rattle.cp_logic.specs.Clauses.{clause_of}
+use Rattle.cp_logic.specs.Entries.{numbered_from}
 use Rattle.cp_logic.specs.Formulas.{Formula, IsFormula}
 use Rattle.cp_logic.specs.Slots.{Held}
 use Rattle.cp_text.specs.declared.cut.Seen.{Seen}
@@ -13,7 +14,7 @@ use Rattle.cp_dimacs.specs.declared.clauses.Reading.{Reading}
 use Rattle.cp_dimacs.specs.declared.parse.Found.{Found}
 use Rattle.cp_dimacs.specs.declared.refusal.CnfRefusal.{CnfRefusal}
 use Rattle.cp_dimacs.specs.declared.refusal.CnfRefusal.TheVariants.{BadInput, TooLarge, NoMemory}
-use Rattle.cp_dimacs.specs.Written.{greatest_of, greatest_in, numbered_from, formula_of, with_clauses}
+use Rattle.cp_dimacs.specs.Written.{greatest_of, greatest_in, formula_of, with_clauses}
 use Rattle.cp_dimacs.specs.Grammar.{◌>>=◌, body, clauses_from, document, judged, reads}
 use Rattle.cp_dimacs.specs.Lines.{resume_lines}
 use Rattle.cp_dimacs.specs.Document.{document_of, AnswersDocument, AnswersJudge, formula_in}
@@ -27,19 +28,19 @@ use Rattle.std.specs.Prelude.{IfOk}
 same_formula : (v w n m : ℕ) (cs ds : List Named) → v ≡ w → n ≡ m → cs ≡ ds → (let f : Formula = record { variables = v; next = n; clauses = cs } in f) ≡ record { variables = w; next = m; clauses = ds }
 same_formula v w n m cs ds a b c = rw (a, b, c) refl
 
-with_clauses-is : (v n : ℕ) (ds : List Named) (cs : List (List ℕ)) → with_clauses (record { variables = v; next = n; clauses = ds }) cs ≡ record { variables = max v (greatest_in cs); next = n + length cs; clauses = ds ++ numbered_from n cs }
+with_clauses-is : (v n : ℕ) (ds : List Named) (cs : List (List ℕ)) → with_clauses (record { variables = v; next = n; clauses = ds }) cs ≡ record { variables = max v (greatest_in cs); next = n + length cs; clauses = ds ++ numbered_from n (map clause_of cs) }
 with_clauses-is v n ds [] = same_formula v (max v 0) n (n + 0) ds (ds ++ []) (omega arith) (omega arith) (sym (append-nil ds))
 with_clauses-is v n ds (c ∷ cs) =
     let d : Named = record { number = n; clause = clause_of c } in
     with_clauses-is (max v (greatest_of c)) (n + 1) (ds ++ d ∷ []) cs
-    ∙ same_formula (max (max v (greatest_of c)) (greatest_in cs)) (max v (greatest_in (c ∷ cs))) (n + 1 + length cs) (n + length (c ∷ cs)) ((ds ++ d ∷ []) ++ numbered_from (n + 1) cs) (ds ++ numbered_from n (c ∷ cs)) (omega arith) (omega arith) (append_assoc ds (d ∷ []) (numbered_from (n + 1) cs))
+    ∙ same_formula (max (max v (greatest_of c)) (greatest_in cs)) (max v (greatest_in (c ∷ cs))) (n + 1 + length cs) (n + length (c ∷ cs)) ((ds ++ d ∷ []) ++ numbered_from (n + 1) (map clause_of cs)) (ds ++ numbered_from n (map clause_of (c ∷ cs))) (omega arith) (omega arith) (append_assoc ds (d ∷ []) (numbered_from (n + 1) (map clause_of cs)))
 
 -- the formula before any clause
 abbrev pub nothing : ℕ → Formula
 nothing v = record { variables = v; next = 1; clauses = [] }
 
 formula_of-is : (v : ℕ) (cs : List (List ℕ)) → formula_of v cs ≡ with_clauses (nothing v) cs
-formula_of-is v cs = same_formula (max v (greatest_in cs)) (max v (greatest_in cs)) (length cs + 1) (1 + length cs) (numbered_from 1 cs) (numbered_from 1 cs) refl (omega arith) refl ∙ sym (with_clauses-is v 1 [] cs)
+formula_of-is v cs = same_formula (max v (greatest_in cs)) (max v (greatest_in cs)) (length cs + 1) (1 + length cs) (numbered_from 1 (map clause_of cs)) (numbered_from 1 (map clause_of cs)) refl (omega arith) refl ∙ sym (with_clauses-is v 1 [] cs)
 
 -- ---- the lines behind the header
 

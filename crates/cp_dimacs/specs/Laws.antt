@@ -1,9 +1,9 @@
 -- The laws of what an input reads as.
 use Rattle.std.specs.Prelude.{◌≡◌, ℕ, ◌+◌, ◌^◌, ◌<◌, ◌≤◌, List, [], ◌∷◌, length, take, sum_by, Ok, if◌then◌else◌}
 use Rattle.cp_io.specs.declared.limits.Limits.{Limits}
+use Rattle.cp_logic.specs.Entries.{renumbered}
 use Rattle.cp_logic.specs.Formulas.{Formula, IsFormula, clauses_of, has_empty}
 use Rattle.cp_dimacs.specs.Grammar.{reads}
-use Rattle.cp_logic.specs.declared.named.Named.{Named}
 use Rattle.cp_dimacs.specs.Cnf.{cnf_text}
 
 -- What an input reads as depends on no byte behind the first past the limit.
@@ -13,11 +13,6 @@ ReadsWithin = (limits : Limits) (input : List ℕ) → reads limits (take (limit
 -- A formula that is read has no more clauses than the limit says.
 abbrev pub ReadsFew : Type 0
 ReadsFew = (limits : Limits) (input : List ℕ) (f : Formula) → reads limits input ≡ Ok f → f.next ≤ limits.clauses + 1
-
--- the clauses in order, numbered from n on
-abbrev pub renumbered : ℕ → List Named → List Named
-renumbered n [] = []
-renumbered n (c ∷ cs) = record { number = n; clause = c.clause } ∷ renumbered (n + 1) cs
 
 -- What a printed formula is read as: its clauses in order, numbered 1, 2, .., or, where one is empty, the empty clause alone.
 abbrev pub as_printed : Formula → Formula

@@ -1,8 +1,8 @@
 -- The formula of clauses as they are written.
-use Rattle.std.specs.Prelude.{ℕ, ◌+◌, max, List, [], ◌∷◌, ◌++◌, length}
-use Rattle.cp_logic.specs.declared.named.Named.{Named}
+use Rattle.std.specs.Prelude.{ℕ, ◌+◌, max, List, [], ◌∷◌, ◌++◌, length, map}
 use Rattle.cp_logic.specs.Literals.{variable_of}
 use Rattle.cp_logic.specs.Clauses.{clause_of}
+use Rattle.cp_logic.specs.Entries.{numbered_from}
 use Rattle.cp_logic.specs.Formulas.{Formula}
 
 abbrev pub greatest_of : List ℕ → ℕ
@@ -14,14 +14,9 @@ abbrev pub greatest_in : List (List ℕ) → ℕ
 greatest_in [] = 0
 greatest_in (literals ∷ clauses) = max (greatest_of literals) (greatest_in clauses)
 
--- the clauses as sets, numbered from n on
-abbrev pub numbered_from : ℕ → List (List ℕ) → List Named
-numbered_from n [] = []
-numbered_from n (literals ∷ clauses) = record { number = n; clause = clause_of literals } ∷ numbered_from (n + 1) clauses
-
--- the formula of a number of variables and of clauses, each the list of its literals, in the order of the text
+-- the formula of a number of variables and of clauses, each the list of its literals, numbered in the order of the text
 abbrev pub formula_of : ℕ → List (List ℕ) → Formula
-formula_of variables clauses = record { variables = max variables (greatest_in clauses); next = length clauses + 1; clauses = numbered_from 1 clauses }
+formula_of variables clauses = record { variables = max variables (greatest_in clauses); next = length clauses + 1; clauses = numbered_from 1 (map clause_of clauses) }
 
 -- the formula with the clause of these literals under its next number, and with as many variables as it needs
 abbrev pub with_clause : Formula → List ℕ → Formula

@@ -1,45 +1,23 @@
 -- Steps of reading a model: a word is in front of the lines that are left.
-use Rattle.std.proofs.Common.{◌≡◌, ◌≢◌, ℕ, ◌+◌, ◌^◌, ◌<◌, ◌≤◌, Bool, true, false, List, [], ◌∷◌, ◌++◌, length, get_or, map, eqb, ltb, Option, Some, None, Result, Ok, Err, refl, sym, ◌∙◌, ap, append_assoc, arith}
+use Rattle.std.proofs.Common.{◌≡◌, ℕ, ◌^◌, ◌<◌, ◌≤◌, Bool, true, false, List, [], ◌∷◌, eqb, ltb, Option, Some, None, Result, Ok, Err, refl, sym, ◌∙◌, ap, arith}
 use Rattle.std.specs.Prelude.{codes}
 use Rattle.std.specs.Option.{option_map}
 use Rattle.std.specs.Str.{bytes_eq}
 use Rattle.std.proofs.lemmas.Bool.Decides.{nat_tests}
 use Rattle.cp_io.specs.declared.limits.Limits.{Limits}
 use Rattle.cp_io.specs.declared.limits.Limit.TheVariants.{Variables}
-use Rattle.cp_text.specs.Cut.{lines_seen, words_before}
+use Rattle.cp_text.specs.Cut.{lines_seen}
 use Rattle.cp_text.specs.Items.{with_word}
 use Rattle.cp_text.specs.Numbers.{NumberWord, kept, kept_size, number_of}
-use Rattle.cp_text.specs.Text.{Word, Line}
+use Rattle.cp_text.specs.Text.{Word, Line, begins_with}
 use Rattle.cp_text.specs.declared.numbers.Number.{Number}
-use Rattle.cp_text.proofs.WordFronts.{some_line_from}
+use Rattle.cp_text.proofs.LinesAhead.{HasLine, some_line_seen}
 use Rattle.cp_extend.specs.declared.refusal.ModelKind.TheVariants.{BadWord, BadStatus}
 use Rattle.cp_extend.specs.declared.refusal.ModelRefusal.TheVariants.{TooLarge}
 use Rattle.cp_extend.specs.declared.refusal.Stop.{Stop}
 use Rattle.cp_extend.specs.declared.parsing.LineStop.{LineStop}
-use Rattle.cp_extend.specs.Grammar.{◌>>=◌, Given, Reading, fault, begins_with, unended, value_words, status_words, document}
+use Rattle.cp_extend.specs.Grammar.{◌>>=◌, Given, Reading, fault, unended, value_words, status_words, document}
 use Rattle.cp_extend.specs.Steps.{TakesWord, GoesOn, ReadsLines, SaysModel, EndsStatus, in_values, in_status, behind_line}
-
--- words in front of the first line
-abbrev pub with_words : List Word → List Line → List Line
-with_words ws [] = []
-with_words ws (line ∷ lines) = record { words = ws ++ line.words; end = line.end } ∷ lines
-
-pub with_words-none : (lines : List Line) → lines ≡ with_words [] lines
-with_words-none [] = refl
-with_words-none (line ∷ lines) = refl
-
-pub with_words-word : (ws : List Word) (w : Word) (lines : List Line) → with_words ws (with_word w lines) ≡ with_words (ws ++ w ∷ []) lines
-with_words-word ws w [] = refl
-with_words-word ws w (line ∷ lines) = ap (λ (x : List Word). record { words = x; end = line.end } ∷ lines) (sym (append_assoc ws (w ∷ []) line.words))
-
--- there is a first line
-abbrev pub HasLine : List Line → Type 0
-HasLine lines = (line : Line) × (behind : List Line) × (lines ≡ line ∷ behind)
-
-pub some_line_seen : (cut : Bool) (p : ℕ) (text : List ℕ) → HasLine (lines_seen cut p text)
-some_line_seen false p text = some_line_from p text
-some_line_seen true p text = let some = some_line_from p text in
-    (words_before (p + length text) some.0, map (words_before (p + length text)) some.1, ap (map (words_before (p + length text))) some.2)
 
 -- ---- words of a value line
 
@@ -107,14 +85,6 @@ status-longer limits cut r new w lines after has_model stop is some says ends = 
     by_lines (line ∷ behind) e = λ _. rw (is, ends.2, e, ends.3) (two_words limits r w ends.0 line behind has_model says)
 
 -- ---- the first word of a line
-
-pub begins : (b : ℕ) (bytes : List ℕ) → 0 < length bytes → get_or bytes 0 0 ≡ b → begins_with b bytes ≡ true
-begins b [] some is = absurd (omega arith)
-begins b (c ∷ bytes) some is = grind (arith, nat_tests)
-
-pub begins_not : (b : ℕ) (bytes : List ℕ) → get_or bytes 0 0 ≢ b → begins_with b bytes ≡ false
-begins_not b [] apart = refl
-begins_not b (c ∷ bytes) apart = grind (arith, nat_tests)
 
 -- a line that begins with this word
 pub record BeginsLine (lines : List Line) (w : Word) (after : List Line) : Type 0 where

@@ -5,7 +5,7 @@ use Rattle.std.specs.List.{range_with_len}
 use Rattle.std.specs.Str.{bytes_eq}
 use Rattle.cp_io.specs.declared.limits.Limits.{Limits}
 use Rattle.cp_io.specs.declared.limits.Limit.TheVariants.{Variables, Bytes}
-use Rattle.cp_text.specs.Text.{Word, Line}
+use Rattle.cp_text.specs.Text.{Word, Line, begins_with}
 use Rattle.cp_text.specs.Numbers.{NumberWord, number_of}
 use Rattle.cp_text.specs.Cut.{lines_within}
 use Rattle.cp_extend.specs.declared.refusal.ModelKind.{ModelKind}
@@ -99,10 +99,6 @@ status_words r (w ∷ words) end =
     if bytes_eq w.bytes (codes "SATISFIABLE") then no_more words (Ok (with_status r))
     else if names_no_model w.bytes then no_more words (Err (record { at = end; refusal = NoModel }))
     else bad w.at BadStatus
-
-abbrev pub begins_with : ℕ → List ℕ → Bool
-begins_with b [] = false
-begins_with b (c ∷ bytes) = c == b
 
 abbrev pub unended : Result Reading Stop → Result (Reading × Bool) Stop
 unended read = read >>= λ r. Ok (r, false)

@@ -1,21 +1,10 @@
 -- The lines of a text, item by item.
-use Rattle.std.proofs.Common.{◌≡◌, ℕ, ◌+◌, Bool, true, false, List, [], ◌∷◌, length, map, Ok, refl, sym, ◌∙◌, ap}
+use Rattle.std.proofs.Common.{◌≡◌, ℕ, List, [], ◌∷◌, Ok, refl, sym, ◌∙◌, ap}
 use Rattle.cp_text.specs.Text.{Word, Line}
-use Rattle.cp_text.specs.Cut.{lines_seen, words_before}
 use Rattle.cp_text.specs.Items.{with_word}
-use Rattle.cp_text.proofs.WordFronts.{some_line_from}
+use Rattle.cp_text.proofs.LinesAhead.{HasLine}
 use Rattle.cp_stack.specs.declared.refusal.StackKind.TheVariants.{BadHeader}
 use Rattle.cp_stack.specs.Grammar.{Taken, bad, next_word, from_words, no_word, words_of, end_of}
-
-abbrev pub HasLine : List Line → Type 0
-HasLine lines = (line : Line) × (behind : List Line) × (lines ≡ line ∷ behind)
-
--- there is always a line
-pub has_line : (cut : Bool) (place : ℕ) (text : List ℕ) → HasLine (lines_seen cut place text)
-has_line false place text = some_line_from place text
-has_line true place text =
-    let some = some_line_from place text in
-    (words_before (place + length text) some.0, map (words_before (place + length text)) some.1, ap (map (words_before (place + length text))) some.2)
 
 pub next_word-word : (w : Word) (lines rest : List Line) → lines ≡ with_word w rest → HasLine rest → Ok (record { word = w; lines = rest }) ≡ next_word lines
 next_word-word w lines rest is some = ap (λ (ls : List Line). let t : Taken = record { word = w; lines = ls } in Ok t) some.2 ∙ sym (ap next_word (is ∙ ap (with_word w) some.2))

@@ -5,7 +5,8 @@ use Rattle.cp_text.specs.Items.{with_word}
 use Rattle.cp_stack.specs.declared.reading.Reading.{Reading}
 use Rattle.cp_stack.specs.Grammar.{words_of, end_of}
 use Rattle.cp_stack.specs.Resume.{resume}
-use Rattle.cp_stack.proofs.LinesAhead.{HasLine, words_of-word, end_of-word, end_of-empty}
+use Rattle.cp_text.proofs.LinesAhead.{HasLine}
+use Rattle.cp_stack.proofs.LinesAhead.{words_of-word, end_of-word, end_of-empty}
 
 -- a word stands first
 pub resume-word : (r : Reading) (w : Word) (lines rest : List Line) → lines ≡ with_word w rest → HasLine rest → resume r (words_of lines) (end_of lines) ≡ resume r (w ∷ words_of rest) (end_of rest)

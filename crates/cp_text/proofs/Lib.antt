@@ -1,4 +1,5 @@
 pub mod Cuts
+pub mod LinesAhead
 pub mod Printed
 pub mod WordFronts
 pub mod Wholes

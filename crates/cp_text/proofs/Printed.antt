@@ -1,6 +1,6 @@
 -- Printed numbers, words and lines, as a reader finds them.
 use Rattle.std.proofs.Common.{◌≡◌, ℕ, zero, suc, ◌+◌, ◌-◌, ◌*◌, ◌^◌, ◌<◌, Bool, true, false, eqb, cond, List, [], ◌∷◌, ◌++◌, length, length-append, append_assoc, drop, get_or, Option, Some, refl, ◌∙◌, ap, arith, rules}
-use Rattle.std.specs.Prelude.{◌||◌, ◌&&◌, decimal}
+use Rattle.std.specs.Prelude.{◌&&◌, decimal}
 use Rattle.std.specs.Option.{option_and_then}
 use Rattle.std.specs.Char.{is_ascii_digit}
 use Rattle.std.specs.List.{list_any}
@@ -13,7 +13,7 @@ use Rattle.std.proofs.Math.ListN.{get_or-append}
 use Rattle.cp_text.specs.Numbers.{digits_from, digits_value, plus, minus, number_of}
 use Rattle.cp_text.specs.Text.{Word, Line, separates, lines_from}
 use Rattle.cp_text.specs.Items.{with_word, IsWordFront}
-use Rattle.cp_text.proofs.WordFronts.{word_front}
+use Rattle.cp_text.proofs.WordFronts.{or_false, word_front}
 
 abbrev read_on : ℕ → List ℕ → ℕ
 read_on n [] = n
@@ -125,10 +125,6 @@ AreWords (w ∷ ws) = IsWord w × AreWords ws
 abbrev pub AreLines : List (List (List ℕ)) → Type 0
 AreLines [] = Unit {0}
 AreLines (line ∷ lines) = AreWords line × AreLines lines
-
-or_false : (a b : Bool) → (a || b) ≡ false → (a ≡ false) × (b ≡ false)
-or_false true b e = absurd cc
-or_false false b e = (refl, e)
 
 solid_at : (w : List ℕ) (k : ℕ) → list_any separates w ≡ false → k < length w → separates (get_or w k 0) ≡ false
 solid_at [] k h low = absurd (omega arith)

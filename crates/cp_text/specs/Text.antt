@@ -1,7 +1,7 @@
 -- The words and lines of a text, with their places.
 -- A blank is a space, a tab or a carriage return. A line ends with a line feed or with the text. A word is a longest run of
 -- other bytes, and a place is the number of bytes before it.
-use Rattle.std.specs.Prelude.{ℕ, ◌+◌, List, [], ◌∷◌, Bool, ◌||◌, ◌==◌, if◌then◌else◌}
+use Rattle.std.specs.Prelude.{ℕ, ◌+◌, List, [], ◌∷◌, Bool, false, ◌||◌, ◌==◌, if◌then◌else◌}
 
 abbrev pub is_blank : ℕ → Bool
 is_blank b = b == 32 || (b == 9 || b == 13)
@@ -9,6 +9,10 @@ is_blank b = b == 32 || (b == 9 || b == 13)
 -- a line feed or a blank
 abbrev pub separates : ℕ → Bool
 separates b = b == 10 || is_blank b
+
+abbrev pub begins_with : ℕ → List ℕ → Bool
+begins_with b [] = false
+begins_with b (c ∷ bytes) = c == b
 
 -- a word, and how many bytes stand before it
 pub record Word : Type 0 where

@@ -1,6 +1,6 @@
 use Rattle.std.proofs.Common.{◌+◌, [], ◌∷◌, ◌++◌, length, ◌∙◌, ap, arith}
 use Rattle.cp_text.specs.Text.{Word, lines_from}
-use Rattle.cp_dimacs.proofs.TakingLines.{with_words, with_words-none, with_words-word}
+use Rattle.cp_text.proofs.LinesAhead.{with_words, with_words-none, with_words-word}
 use Rattle.cp_dimacs.proofs.lines.skip_line.Goals as goal
 
 pub words-init : goal.words-init

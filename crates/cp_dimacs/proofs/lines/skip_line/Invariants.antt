@@ -1,6 +1,6 @@
 use Rattle.std.proofs.Common.{◌≡◌, ◌+◌, ◌≤◌, List, length}
 use Rattle.cp_text.specs.Text.{Word, lines_from}
-use Rattle.cp_dimacs.proofs.TakingLines.{with_words}
+use Rattle.cp_text.proofs.LinesAhead.{with_words}
 use Rattle.cp_dimacs.proofs.lines.skip_line.Given as goal
 
 abbrev pub invariant-words : goal.invariant-words

@@ -1,7 +1,7 @@
 use Rattle.std.proofs.Common.{◌+◌, [], ◌∷◌, ◌++◌, length, ◌∙◌, ap, arith}
 use Rattle.cp_text.specs.Text.{Word}
 use Rattle.cp_text.specs.Cut.{lines_seen}
-use Rattle.cp_extend.proofs.Steps.{with_words, with_words-word}
+use Rattle.cp_text.proofs.LinesAhead.{with_words, with_words-word}
 use Rattle.cp_extend.proofs.parsing.skip_line.Goals as goal
 
 pub words-preserved : goal.words-preserved

@@ -1,7 +1,7 @@
 use Rattle.std.proofs.Common.{◌≡◌, ◌+◌, ◌≤◌, List, length}
 use Rattle.cp_text.specs.Text.{Word}
 use Rattle.cp_text.specs.Cut.{lines_seen}
-use Rattle.cp_extend.proofs.Steps.{with_words}
+use Rattle.cp_text.proofs.LinesAhead.{with_words}
 use Rattle.cp_extend.proofs.parsing.skip_line.Given as goal
 
 abbrev pub invariant-words : goal.invariant-words

@@ -6,7 +6,8 @@ use Rattle.cp_text.specs.Cut.{lines_seen}
 use Rattle.cp_extend.specs.Grammar.{document}
 use Rattle.cp_extend.specs.Held.{reading_of}
 use Rattle.cp_extend.specs.Steps.{in_values, in_status}
-use Rattle.cp_extend.proofs.Steps.{BeginsLine, some_line_seen, begins_not, line-values, line-bad, line-second, line-status, goes-on}
+use Rattle.cp_text.proofs.LinesAhead.{some_line_seen, begins_not}
+use Rattle.cp_extend.proofs.Steps.{BeginsLine, line-values, line-bad, line-second, line-status, goes-on}
 use Rattle.cp_extend.proofs.parsing.take_line.Goals as goal
 
 pub returns-then-eq-clause-takes : goal.returns-then-eq-clause-takes

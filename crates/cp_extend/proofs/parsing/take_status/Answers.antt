@@ -3,7 +3,8 @@ use Rattle.std.proofs.lemmas.Result.{err_from_is_err_and}
 use Rattle.cp_text.specs.Text.{Word}
 use Rattle.cp_text.specs.Cut.{lines_seen}
 use Rattle.cp_extend.specs.Held.{reading_of}
-use Rattle.cp_extend.proofs.Steps.{some_line_seen, status-wrong, status-longer}
+use Rattle.cp_text.proofs.LinesAhead.{some_line_seen}
+use Rattle.cp_extend.proofs.Steps.{status-wrong, status-longer}
 use Rattle.cp_extend.proofs.parsing.take_status.Goals as goal
 
 pub returns-in_err-has_model-clause-takes : goal.returns-in_err-has_model-clause-takes

@@ -4,7 +4,8 @@ use Rattle.cp_text.specs.Text.{Word}
 use Rattle.cp_text.specs.Cut.{lines_seen}
 use Rattle.cp_extend.specs.Held.{reading_of}
 use Rattle.cp_extend.specs.Steps.{in_values}
-use Rattle.cp_extend.proofs.Steps.{some_line_seen, values-word, values-ended, values-refused}
+use Rattle.cp_text.proofs.LinesAhead.{some_line_seen}
+use Rattle.cp_extend.proofs.Steps.{values-word, values-ended, values-refused}
 use Rattle.cp_extend.proofs.parsing.take_values.Goals as goal
 
 pub returns-in_err-take_word-in-Word-clause-takes : goal.returns-in_err-take_word-in-Word-clause-takes
