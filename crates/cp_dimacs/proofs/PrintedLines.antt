@@ -4,7 +4,8 @@ use Rattle.std.specs.Prelude.{codes, decimal, map, flat_map}
 use Rattle.cp_logic.specs.declared.named.Named.{Named}
 use Rattle.cp_logic.specs.Literals.{variable_of, is_positive}
 use Rattle.cp_logic.specs.Formulas.{Formula, clauses_of, has_empty}
-use Rattle.cp_dimacs.specs.Cnf.{sign_text, literal_text, literal_part, clause_text, header_text, cnf_text}
+use Rattle.cp_io.specs.Signed.{signed_text}
+use Rattle.cp_dimacs.specs.Cnf.{literal_part, clause_text, header_text, cnf_text}
 use Rattle.cp_text.proofs.Printed.{after-space, line_text, lines_text, literal_word}
 
 abbrev pub word_of : ℕ → List ℕ
@@ -19,18 +20,18 @@ header_line variables clauses = codes "p" ∷ codes "cnf" ∷ decimal variables 
 abbrev pub clause_lines : List (List ℕ) → List (List (List ℕ))
 clause_lines clauses = map clause_line clauses
 
-literal-word : (l : ℕ) → literal_text l ≡ word_of l
-literal-word l = go (is_positive l)
+literal-part : (l : ℕ) (rest : List ℕ) → literal_part l ++ rest ≡ word_of l ++ 32 ∷ rest
+literal-part l rest = go (is_positive l)
   where
-    go : (s : Bool) → sign_text s ++ decimal (variable_of l) ≡ literal_word s (variable_of l)
-    go true = refl
-    go false = refl
+    go : (s : Bool) → signed_text s (variable_of l) ++ rest ≡ literal_word s (variable_of l) ++ 32 ∷ rest
+    go true = append_assoc (decimal (variable_of l)) (codes " ") rest
+    go false = ap (λ (t : List ℕ). 45 ∷ t) (append_assoc (decimal (variable_of l)) (codes " ") rest)
 
 clause-line : (clause : List ℕ) → clause_text clause ≡ line_text (clause_line clause)
 clause-line [] = refl
 clause-line (l ∷ ls) =
-    append_assoc (literal_part l) (flat_map literal_part ls) (codes "0\n") ∙ append_assoc (literal_text l) (codes " ") (flat_map literal_part ls ++ codes "0\n")
-    ∙ ap (λ (w : List ℕ). w ++ 32 ∷ clause_text ls) (literal-word l) ∙ ap (λ (t : List ℕ). word_of l ++ 32 ∷ t) (clause-line ls) ∙ ap (λ (t : List ℕ). word_of l ++ t) (sym (after-space (map word_of ls) (codes "0")))
+    append_assoc (literal_part l) (flat_map literal_part ls) (codes "0\n") ∙ literal-part l (clause_text ls)
+    ∙ ap (λ (t : List ℕ). word_of l ++ 32 ∷ t) (clause-line ls) ∙ ap (λ (t : List ℕ). word_of l ++ t) (sym (after-space (map word_of ls) (codes "0")))
 
 clause-lines : (cs : List Named) → flat_map (λ c. clause_text c.clause) cs ≡ lines_text (clause_lines (map (λ c. c.clause) cs))
 clause-lines [] = refl

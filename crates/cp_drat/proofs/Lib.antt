@@ -3,7 +3,6 @@ pub mod Counts
 pub mod Cuts
 pub mod Ends
 pub mod Groups
-pub mod Lines
 pub mod Refuted
 pub mod Rows
 pub mod RupAdditions

@@ -1,16 +1,10 @@
 -- The text of a proof log, in either form of DRAT: in the text form each number is written in digits, in the binary one in groups of bits.
-use Rattle.std.specs.Prelude.{ℕ, zero, suc, ◌+◌, ◌-◌, ◌*◌, ◌/◌, ◌%◌, ◌≡◌, nat_lt, List, [], ◌∷◌, ◌++◌, flat_map, codes, decimal, Bool, if◌then◌else◌}
+use Rattle.std.specs.Prelude.{ℕ, zero, suc, ◌+◌, ◌-◌, ◌*◌, ◌/◌, ◌%◌, ◌≡◌, nat_lt, List, [], ◌∷◌, ◌++◌, flat_map, codes, if◌then◌else◌}
 use Rattle.cp_logic.specs.declared.settings.Form.{Form}
 use Rattle.cp_logic.specs.declared.settings.Form.TheVariants.{Text, Binary}
+use Rattle.cp_io.specs.Signed.{signed_text}
 use Rattle.cp_logic.specs.Literals.{variable_of, is_positive, IsLiteral}
 use Rattle.cp_drat.specs.Log.{Item, Lemma, Deletion}
-
-abbrev pub sign_text : Bool → List ℕ
-sign_text positive = if positive then [] else codes "-"
-
--- the variable, behind a `-` where the literal is negative, and a space
-abbrev pub signed_text : ℕ → List ℕ
-signed_text l = sign_text (is_positive l) ++ (decimal (variable_of l) ++ codes " ")
 
 -- the number in groups of seven bits, the low group first, of which all but the last have the high bit set; at most `more` groups
 -- stand before the last
@@ -24,7 +18,7 @@ code_bytes l = groups 3 l
 
 -- a literal of a clause
 unfoldable pub literal_text : Form → ℕ → List ℕ
-literal_text Text l = signed_text l
+literal_text Text l = signed_text (is_positive l) (variable_of l)
 literal_text Binary l = code_bytes l
 
 -- what stands behind the literals

@@ -26,10 +26,10 @@ ghost use Rattle.cp_io.specs.Port.{AtRole, Writes};
 ghost use Rattle.cp_io.specs.Prints.{Prints};
 ghost use Rattle.cp_logic.specs.Views.{entry_of, post_of};
 ghost use Rattle.cp_drat.specs.Log.{Lemma, Deletion, lemma_of, deletion_of, items_of, cut, has_end, is_end, log_of};
-ghost use Rattle.cp_drat.specs.Text.{log_text, item_text, clause_text, literal_text, signed_text, code_bytes, sign_text};
+ghost use Rattle.cp_drat.specs.Text.{log_text, item_text, clause_text, literal_text, code_bytes};
 
 use crate::marks::{deletion_mark, end_mark, lemma_mark};
-use cp_io::{Desk, Failed, OutputBuffer, Role};
+use cp_io::{Desk, Failed, OutputBuffer, Role, put_signed};
 use cp_logic::{Clause, Entry, Form, Journal, Lit, Named, Post};
 
 /// Prints the DRAT proof of a journal to the role Proof in the form, up to the first empty clause. It takes no memory.
@@ -188,26 +188,9 @@ fn put_literal<D: Desk>(buffer: &mut OutputBuffer, desk: &mut D, form: Form, lit
     ensures bound { (D.port desk.new Proof).way ≡ Some Out }
 {
     match form {
-        Form::Text => put_signed(buffer, desk, lit),
+        Form::Text => put_signed(buffer, desk, Role::Proof, lit.is_positive(), lit.var()),
         Form::Binary => put_code(buffer, desk, lit),
     }
-}
-
-fn put_signed<D: Desk>(buffer: &mut OutputBuffer, desk: &mut D, lit: Lit)
-    requires { (D.port desk.old Proof).way ≡ Some Out }
-    ensures prints { Prints Proof (signed_text lit) buffer.old (D.port desk.old) buffer.new (D.port desk.new) }
-    ensures bound { (D.port desk.new Proof).way ≡ Some Out }
-{
-    let mut number = itoa::Buffer::new();
-    buffer.put(desk, Role::Proof, sign(lit.is_positive()));
-    buffer.put(desk, Role::Proof, number.format(lit.var()).as_bytes());
-    buffer.put_byte(desk, Role::Proof, b' ');
-}
-
-fn sign(positive: bool) -> &'static [u8]
-    ensures { result.now ≡ sign_text positive }
-{
-    if positive { b"" } else { b"-" }
 }
 
 // The code in groups of seven bits, the low group first. The high bit says that another follows.

@@ -1,7 +1,6 @@
 pub mod Completions
 pub mod Lengths
 pub mod Lines
-pub mod Pieces
 pub mod PrintedLines
 pub mod PrintedReads
 pub mod ReadingRows

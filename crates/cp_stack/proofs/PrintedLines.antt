@@ -4,7 +4,8 @@ use Rattle.std.specs.Prelude.{codes, decimal, map, flat_map}
 use Rattle.cp_logic.specs.Literals.{variable_of, is_positive}
 use Rattle.cp_logic.specs.Clauses.{without}
 use Rattle.cp_logic.specs.Assignments.{Pair}
-use Rattle.cp_stack.specs.Text.{sign_text, literal_part, pair_text, header_text, stack_text}
+use Rattle.cp_io.specs.Signed.{sign_text}
+use Rattle.cp_stack.specs.Text.{literal_part, pair_text, header_text, stack_text}
 use Rattle.cp_text.proofs.Printed.{after-space, line_text, lines_text, literal_word}
 
 abbrev pub word_of : ℕ → List ℕ

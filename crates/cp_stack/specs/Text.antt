@@ -1,15 +1,13 @@
 -- The text of a witness stack.
-use Rattle.std.specs.Prelude.{ℕ, List, [], ◌++◌, length, flat_map, codes, decimal, Bool, if◌then◌else◌}
+use Rattle.std.specs.Prelude.{ℕ, List, ◌++◌, length, flat_map, codes, decimal}
+use Rattle.cp_io.specs.Signed.{signed_text}
 use Rattle.cp_logic.specs.Literals.{variable_of, is_positive}
 use Rattle.cp_logic.specs.Clauses.{without}
 use Rattle.cp_logic.specs.Assignments.{Pair}
 
-abbrev pub sign_text : Bool → List ℕ
-sign_text positive = if positive then [] else codes "-"
-
 -- the variable, behind a `-` where the literal is negative, and a space
 abbrev pub literal_part : ℕ → List ℕ
-literal_part l = sign_text (is_positive l) ++ (decimal (variable_of l) ++ codes " ")
+literal_part l = signed_text (is_positive l) (variable_of l)
 
 -- the literal of the pair, the other literals of its clause by ascending order, and a 0
 abbrev pub pair_text : Pair → List ℕ

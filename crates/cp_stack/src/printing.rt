@@ -10,9 +10,9 @@ ghost use Rattle.cp_io.specs.declared.role.Role.TheVariants.{Stack as StackRole}
 ghost use Rattle.cp_io.specs.Port.{AtRole, Writes};
 ghost use Rattle.cp_io.specs.Prints.{Prints};
 ghost use Rattle.cp_logic.specs.Pairs.{pair_of, pairs_of};
-ghost use Rattle.cp_stack.specs.Text.{stack_text, pair_text, header_text, literal_part, sign_text};
+ghost use Rattle.cp_stack.specs.Text.{stack_text, pair_text, header_text, literal_part};
 
-use cp_io::{Desk, Failed, OutputBuffer, Role};
+use cp_io::{Desk, Failed, OutputBuffer, Role, put_signed};
 use cp_logic::{Lit, Pair, Stack};
 
 /// Prints a stack to the role Stack, the pairs from the first to the last. It takes no memory.
@@ -64,14 +64,5 @@ fn put_literal<D: Desk>(buffer: &mut OutputBuffer, desk: &mut D, lit: Lit)
     ensures prints { Prints StackRole (literal_part lit) buffer.old (D.port desk.old) buffer.new (D.port desk.new) }
     ensures bound { (D.port desk.new StackRole).way ≡ Some Out }
 {
-    let mut number = itoa::Buffer::new();
-    buffer.put(desk, Role::Stack, sign(lit.is_positive()));
-    buffer.put(desk, Role::Stack, number.format(lit.var()).as_bytes());
-    buffer.put_byte(desk, Role::Stack, b' ');
-}
-
-fn sign(positive: bool) -> &'static [u8]
-    ensures { result.now ≡ sign_text positive }
-{
-    if positive { b"" } else { b"-" }
+    put_signed(buffer, desk, Role::Stack, lit.is_positive(), lit.var());
 }

@@ -6,7 +6,7 @@ use Rattle.cp_io.specs.declared.role.Role.TheVariants.{Proof}
 use Rattle.cp_io.specs.Prints.{Prints}
 use Rattle.cp_io.proofs.Printing.{Prints-then}
 use Rattle.cp_drat.specs.Text.{literal_text}
-use Rattle.cp_drat.proofs.Lines.{Prints-step, Prints-whole, Prints-start}
+use Rattle.cp_io.proofs.PrintsUpTo.{Prints-step, Prints-whole, Prints-start}
 use Rattle.cp_drat.proofs.printing.put_clause.Goals as goal
 
 pub loop-lit-init : goal.loop-lit-init

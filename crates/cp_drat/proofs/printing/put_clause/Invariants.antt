@@ -3,7 +3,7 @@ use Rattle.std.specs.List.{flat_map}
 use Rattle.cp_io.specs.declared.role.Way.TheVariants.{Out}
 use Rattle.cp_io.specs.declared.role.Role.TheVariants.{Proof}
 use Rattle.cp_drat.specs.Text.{literal_text}
-use Rattle.cp_drat.proofs.Lines.{PrintsUpTo}
+use Rattle.cp_io.proofs.PrintsUpTo.{PrintsUpTo}
 use Rattle.cp_drat.proofs.printing.put_clause.Given as goal
 
 abbrev pub invariant-loop-lit : goal.invariant-loop-lit

@@ -2,7 +2,7 @@ use Rattle.std.proofs.Common.{ℕ, zero, suc, ◌/◌, ◌<◌, sym, subst, arit
 use Rattle.cp_io.specs.declared.role.Role.TheVariants.{Proof}
 use Rattle.cp_drat.specs.Text.{groups, code_bytes}
 use Rattle.cp_drat.proofs.Groups.{groups-last, groups-next, limit, limit-zero, limit-more, code-below}
-use Rattle.cp_drat.proofs.Lines.{PrintsUpTo, Prints-start, Prints-step, Prints-last}
+use Rattle.cp_io.proofs.PrintsUpTo.{PrintsUpTo, Prints-start, Prints-step, Prints-last}
 use Rattle.cp_drat.proofs.printing.put_code.Goals as goal
 
 pub groups-init : goal.groups-init

@@ -3,7 +3,7 @@ use Rattle.cp_io.specs.declared.role.Way.TheVariants.{Out}
 use Rattle.cp_io.specs.declared.role.Role.TheVariants.{Proof}
 use Rattle.cp_drat.specs.Text.{groups, code_bytes}
 use Rattle.cp_drat.proofs.Groups.{limit}
-use Rattle.cp_drat.proofs.Lines.{PrintsUpTo}
+use Rattle.cp_io.proofs.PrintsUpTo.{PrintsUpTo}
 use Rattle.cp_drat.proofs.printing.put_code.Given as goal
 
 abbrev pub invariant-groups : goal.invariant-groups

@@ -5,7 +5,7 @@ use Rattle.cp_io.specs.Prints.{Prints}
 use Rattle.cp_logic.specs.declared.named.Named.{Named}
 use Rattle.cp_drat.specs.Log.{deletion_of}
 use Rattle.cp_drat.specs.Text.{log_text, item_text}
-use Rattle.cp_drat.proofs.Lines.{Prints-step, Prints-start}
+use Rattle.cp_io.proofs.PrintsUpTo.{Prints-step, Prints-start}
 use Rattle.cp_drat.proofs.printing.put_deletions.Goals as goal
 
 pub loop-named-init : goal.loop-named-init

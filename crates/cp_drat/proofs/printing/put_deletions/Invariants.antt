@@ -3,7 +3,7 @@ use Rattle.cp_io.specs.declared.role.Way.TheVariants.{Out}
 use Rattle.cp_io.specs.declared.role.Role.TheVariants.{Proof}
 use Rattle.cp_drat.specs.Log.{deletion_of}
 use Rattle.cp_drat.specs.Text.{log_text}
-use Rattle.cp_drat.proofs.Lines.{PrintsUpTo}
+use Rattle.cp_io.proofs.PrintsUpTo.{PrintsUpTo}
 use Rattle.cp_drat.proofs.printing.put_deletions.Given as goal
 
 abbrev pub invariant-loop-named : goal.invariant-loop-named

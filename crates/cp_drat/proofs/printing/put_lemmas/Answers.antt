@@ -5,7 +5,7 @@ use Rattle.cp_drat.specs.Log.{lemma_of, is_end, has_end, cut}
 use Rattle.cp_drat.specs.Text.{log_text, item_text}
 use Rattle.cp_io.specs.declared.role.Role.TheVariants.{Proof}
 use Rattle.cp_drat.proofs.Cuts.{cut-end, cut-next, has_end-next}
-use Rattle.cp_drat.proofs.Lines.{Prints-step, Prints-last, Prints-start}
+use Rattle.cp_io.proofs.PrintsUpTo.{Prints-step, Prints-last, Prints-start}
 use Rattle.cp_drat.proofs.printing.put_lemmas.Goals as goal
 
 pub loop-named-init : goal.loop-named-init

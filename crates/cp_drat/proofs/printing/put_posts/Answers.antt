@@ -7,7 +7,7 @@ use Rattle.cp_drat.specs.Log.{items_of, has_end, cut, log_of}
 use Rattle.cp_drat.specs.Text.{log_text, item_text}
 use Rattle.cp_io.specs.declared.role.Role.TheVariants.{Proof}
 use Rattle.cp_drat.proofs.Cuts.{log_of-next, log_of-ended}
-use Rattle.cp_drat.proofs.Lines.{Prints-step, Prints-last, Prints-start}
+use Rattle.cp_io.proofs.PrintsUpTo.{Prints-step, Prints-last, Prints-start}
 use Rattle.cp_drat.proofs.printing.put_posts.Goals as goal
 
 pub loop-post-init : goal.loop-post-init

@@ -4,7 +4,7 @@ use Rattle.cp_io.specs.declared.role.Role.TheVariants.{Proof}
 use Rattle.cp_logic.specs.Views.{post_of}
 use Rattle.cp_drat.specs.Log.{log_of}
 use Rattle.cp_drat.specs.Text.{log_text}
-use Rattle.cp_drat.proofs.Lines.{PrintsUpTo}
+use Rattle.cp_io.proofs.PrintsUpTo.{PrintsUpTo}
 use Rattle.cp_drat.proofs.printing.put_posts.Given as goal
 
 abbrev pub invariant-loop-post : goal.invariant-loop-post

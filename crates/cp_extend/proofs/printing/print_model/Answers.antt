@@ -1,9 +1,9 @@
-use Rattle.std.proofs.Common.{◌+◌, ◌*◌, ◌/◌, ◌++◌, length, take, drop}
+use Rattle.std.proofs.Common.{◌+◌, ◌/◌, ◌++◌, length}
 use Rattle.std.specs.Prelude.{codes}
 use Rattle.cp_io.proofs.Printing.{Prints-then, Prints-finish}
-use Rattle.cp_extend.specs.ModelText.{line_text, lines_text}
+use Rattle.cp_extend.specs.ModelText.{lines_text}
 use Rattle.cp_extend.proofs.Lines.{lines_left, lines_left-next, lines_left-none}
-use Rattle.cp_extend.proofs.Pieces.{Prints-next, Prints-whole}
+use Rattle.cp_io.proofs.PrintsUpTo.{Prints-step, Prints-whole}
 use Rattle.cp_extend.proofs.printing.print_model.Goals as goal
 
 pub loop-line-preserved : goal.loop-line-preserved
@@ -12,8 +12,8 @@ loop-line-preserved g c =
     let lines = c.div_ceil-lines.result in
     let k = c.loop-line.line in
     record {
-      prints = Prints-next (codes "s SATISFIABLE\n" ++ lines_text ((length values + 9) / 10) 1 values) (lines_left values lines k) (line_text (10 * k + 1) (take 10 (drop (10 * k) values))) (lines_left values lines (k + 1))
-          c.loop-line.invariant.prints c.put_line.ensures.prints (lines_left-next values lines k c.loop-line-test.true);
+      prints = Prints-step (codes "s SATISFIABLE\n" ++ lines_text ((length values + 9) / 10) 1 values) (lines_left values lines k) (lines_left values lines (k + 1))
+          (lines_left-next values lines k c.loop-line-test.true) c.loop-line.invariant.prints c.put_line.ensures.prints;
       bound = c.put_line.ensures.bound;
     }
 
@@ -22,5 +22,5 @@ returns g c =
     let values = c.args.model.now in
     let lines = c.div_ceil-lines.result in
     let text = codes "s SATISFIABLE\n" ++ lines_text ((length values + 9) / 10) 1 values in
-    let shown = Prints-whole text (lines_left values lines c.loop-line.line) c.loop-line.invariant.prints (lines_left-none values lines c.loop-line.line c.loop-line-test.false) in
+    let shown = Prints-whole text (lines_left values lines c.loop-line.line) (lines_left-none values lines c.loop-line.line c.loop-line-test.false) c.loop-line.invariant.prints in
     Prints-finish (Prints-then shown c.put-2.ensures.prints) c.finish.ensures

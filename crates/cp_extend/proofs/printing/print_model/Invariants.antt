@@ -5,7 +5,7 @@ use Rattle.cp_io.specs.declared.role.Role.TheVariants.{Full}
 use Rattle.cp_io.specs.Prints.{nothing_pending}
 use Rattle.cp_extend.specs.ModelText.{lines_text}
 use Rattle.cp_extend.proofs.Lines.{lines_left}
-use Rattle.cp_extend.proofs.Pieces.{PrintsUpTo}
+use Rattle.cp_io.proofs.PrintsUpTo.{PrintsUpTo}
 use Rattle.cp_extend.proofs.printing.print_model.Given as goal
 
 abbrev pub invariant-loop-line : goal.invariant-loop-line

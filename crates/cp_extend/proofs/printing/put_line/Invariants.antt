@@ -4,7 +4,7 @@ use Rattle.cp_io.specs.declared.role.Way.TheVariants.{Out}
 use Rattle.cp_io.specs.declared.role.Role.TheVariants.{Full}
 use Rattle.cp_extend.specs.ModelText.{values_text}
 use Rattle.cp_extend.proofs.Lines.{line_left}
-use Rattle.cp_extend.proofs.Pieces.{PrintsUpTo}
+use Rattle.cp_io.proofs.PrintsUpTo.{PrintsUpTo}
 use Rattle.cp_extend.proofs.printing.put_line.Given as goal
 
 abbrev pub invariant-loop-index : goal.invariant-loop-index

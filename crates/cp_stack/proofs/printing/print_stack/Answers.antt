@@ -1,4 +1,5 @@
-use Rattle.std.proofs.Common.{◌≡◌, ◌<◌, ◌≤◌, List, length, drop, get_or, subst}
+use Rattle.std.proofs.Common.{◌≡◌, ◌<◌, ◌≤◌, List, length, drop, get_or, ap, subst}
+use Rattle.std.specs.List.{flat_map}
 use Rattle.std.proofs.Math.ListN.{drop_of_length-le}
 use Rattle.cp_io.specs.declared.role.Role.TheVariants.{Stack}
 use Rattle.cp_io.specs.Prints.{Prints}
@@ -6,7 +7,8 @@ use Rattle.cp_io.proofs.Printing.{Prints-finish}
 use Rattle.cp_logic.specs.declared.pairs.Pair.{Pair}
 use Rattle.cp_logic.specs.Pairs.{pair_of, pairs_of}
 use Rattle.cp_stack.specs.Text.{header_text, pair_text, stack_text}
-use Rattle.cp_stack.proofs.Pieces.{Prints-next, Prints-whole, stack_text-held}
+use Rattle.cp_io.proofs.PrintsUpTo.{Prints-whole}
+use Rattle.cp_stack.proofs.Pieces.{Prints-next, stack_text-held}
 use Rattle.cp_stack.proofs.printing.print_stack.Goals as goal
 
 pub loop-pair-init : goal.loop-pair-init
@@ -35,4 +37,4 @@ pub returns : goal.returns
 returns g c =
     let s = c.args.stack.now in
     let past : length s.pairs.items ≤ c.loop-pair.pair-index = subst (λ (ps : List Pair). length ps ≤ c.loop-pair.pair-index) c.as_slice-pairs.ensures c.loop-pair-test.false in
-    Prints-finish (Prints-whole (λ (p : Pair). pair_text (pair_of p)) (stack_text s.vars (pairs_of s.pairs)) (drop c.loop-pair.pair-index s.pairs.items) c.loop-pair.invariant.prints (drop_of_length-le s.pairs.items past)) c.finish.ensures
+    Prints-finish (Prints-whole (stack_text s.vars (pairs_of s.pairs)) (flat_map (λ (p : Pair). pair_text (pair_of p)) (drop c.loop-pair.pair-index s.pairs.items)) (ap (flat_map (λ (p : Pair). pair_text (pair_of p))) (drop_of_length-le s.pairs.items past)) c.loop-pair.invariant.prints) c.finish.ensures

@@ -1,11 +1,4 @@
-use Rattle.std.proofs.Common.{◌∙◌, ap}
-use Rattle.std.specs.Prelude.{decimal}
-use Rattle.cp_io.proofs.Printing.{Prints-then}
-use Rattle.cp_stack.specs.Text.{sign_text}
 use Rattle.cp_stack.proofs.printing.put_literal.Goals as goal
 
 pub returns-clause-prints : goal.returns-clause-prints
-returns-clause-prints g c =
-    let sign = rw (c.sign.ensures ∙ ap sign_text c.is_positive.ensures) at c.put.ensures.prints in
-    let var = rw (c.as_bytes.ensures.value ∙ c.format.ensures.text ∙ ap decimal c.var.ensures.value) at c.put-2.ensures.prints in
-    Prints-then sign (Prints-then var c.put_byte.ensures.prints)
+returns-clause-prints g c = rw (c.is_positive.ensures, c.var.ensures.value) at c.put_signed.ensures.prints

@@ -8,7 +8,8 @@ use Rattle.cp_io.specs.Prints.{Prints}
 use Rattle.cp_io.proofs.Printing.{Prints-then}
 use Rattle.cp_logic.specs.Clauses.{without}
 use Rattle.cp_stack.specs.Text.{literal_part}
-use Rattle.cp_stack.proofs.Pieces.{Prints-other, Prints-passed, Prints-whole}
+use Rattle.cp_io.proofs.PrintsUpTo.{Prints-whole}
+use Rattle.cp_stack.proofs.Pieces.{Prints-other, Prints-passed}
 use Rattle.cp_stack.proofs.printing.put_pair.Goals as goal
 use Rattle.cp_stack.proofs.printing.put_pair.Goals.{then-ne, else-ne}
 
@@ -41,4 +42,4 @@ returns-clause-prints g c =
     let past : length p.clause ≤ i = subst (λ (ls : List ℕ). length ls ≤ i) c.lits-lits.ensures.value c.loop-lit-test.false in
     subst (λ t. Prints Stack t c.args.buffer.now (g.D.Desk.port c.args.desk.now) c.put.new.self (g.D.Desk.port c.put.new.desk))
     (append_assoc (literal_part p.lit) (flat_map literal_part (without p.clause p.lit)) (codes "0\n"))
-    (Prints-then (Prints-whole literal_part text (without (drop i p.clause) p.lit) c.loop-lit.invariant.prints (ap (λ (ls : List ℕ). without ls p.lit) (drop_of_length-le p.clause past))) c.put.ensures.prints)
+    (Prints-then (Prints-whole text (flat_map literal_part (without (drop i p.clause) p.lit)) (ap (λ (ls : List ℕ). flat_map literal_part (without ls p.lit)) (drop_of_length-le p.clause past)) c.loop-lit.invariant.prints) c.put.ensures.prints)

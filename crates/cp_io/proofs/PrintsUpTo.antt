@@ -1,5 +1,6 @@
--- Lines that are printed one after the other: some of a text is printed, and what is left of it.
-use Rattle.std.proofs.Common.{◌≡◌, List, [], ◌++◌, refl, sym, ◌∙◌, ap, subst, append_assoc, ℕ}
+-- A text of which some is printed, and what is left of it.
+use Rattle.std.proofs.Common.{◌≡◌, ℕ, List, [], ◌∷◌, ◌++◌, refl, sym, ◌∙◌, ap, subst, append_assoc}
+use Rattle.std.specs.List.{flat_map}
 use Rattle.std.proofs.lemmas.List.{append-nil}
 use Rattle.cp_io.specs.declared.role.Role.{Role}
 use Rattle.cp_io.specs.Port.{Ports}
@@ -28,3 +29,8 @@ Prints-last {part = part} whole left is m n = Prints-whole whole [] refl (Prints
 -- nothing is printed yet
 pub Prints-start : (role : Role) (whole : List ℕ) (p : Buffered) (now : Ports) → PrintsUpTo role whole whole p now p now
 Prints-start role whole p now = ([], Prints-none role p now, refl)
+
+-- the text of the next member of a list is printed
+pub Prints-piece : {X : Type 0} {role : Role} (f : X → List ℕ) (whole : List ℕ) (left next : List X) (x : X) {p q r : Buffered} {old mid new : Ports}
+    → PrintsUpTo role whole (flat_map f left) p old q mid → left ≡ x ∷ next → Prints role (f x) q mid r new → PrintsUpTo role whole (flat_map f next) p old r new
+Prints-piece f whole left next x m is n = Prints-step whole (flat_map f left) (flat_map f next) (ap (flat_map f) is) m n
