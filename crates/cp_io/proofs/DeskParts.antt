@@ -72,7 +72,7 @@ pub AtRole-slot : (Change : Port → Port → Type 0) {slots : List Slot} {role 
 AtRole-slot Change call d after change = AtRole-part slot_port (fresh_port []) Change call d after change
 
 -- what a call does to the place of the standard desk, it does to the role
-pub AtRole-place : (Change : Port → Port → Type 0) {places : List Place} {role : Role} {i : ℕ} → SlotCall places role i → (d after : Place) → Change (place_port (get_or places i d)) (place_port after)
+pub AtRole-place : {F : Type 0} (Change : Port → Port → Type 0) {places : List (Place F)} {role : Role} {i : ℕ} → SlotCall places role i → (d after : Place F) → Change (place_port (get_or places i d)) (place_port after)
     → AtRole role Change (parts place_port untold_port places) (parts place_port untold_port (set places i after))
 AtRole-place Change call d after change = AtRole-part place_port untold_port Change call d after change
 

@@ -6,4 +6,4 @@ use Rattle.cp_io.proofs.standard.StdDeskDesk.read.Goals as goal
 pub returns : goal.returns
 returns c =
     let call : SlotCall c.args.self.now.places c.args.role c.index.result = record { at = c.index.ensures.index; within = omega arith } in
-    AtRole-place (Reads c.read.result c.read.new.into) call _ c.read.new.self c.read.ensures
+    AtRole-place (Reads c.read.result c.read.new.into) call _ c.read.new.self c.read.ensures.reads

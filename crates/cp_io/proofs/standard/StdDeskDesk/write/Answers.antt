@@ -6,4 +6,4 @@ use Rattle.cp_io.proofs.standard.StdDeskDesk.write.Goals as goal
 pub returns : goal.returns
 returns c =
     let call : SlotCall c.args.self.now.places c.args.role c.index.result = record { at = c.index.ensures.index; within = omega arith } in
-    AtRole-place (WritesSome c.args.bytes.now c.write.result) call _ c.write.new.self c.write.ensures
+    AtRole-place (WritesSome c.args.bytes.now c.write.result) call _ c.write.new.self c.write.ensures.writes
