@@ -1,5 +1,5 @@
 -- A visit, commit by commit.
-use Rattle.std.proofs.Common.{◌≡◌, ◌<◌, ℕ, ◌+◌, List, [], ◌∷◌, ◌++◌, map, length, append_assoc, append-nil, Some, None, inl, inr, refl, sym, ◌∙◌, ap, subst, arith}
+use Rattle.std.proofs.Common.{◌≡◌, ℕ, List, [], ◌∷◌, ◌++◌, map, length, append_assoc, append-nil, Some, None, inl, inr, refl, sym, ◌∙◌, ap, subst}
 use Rattle.std.specs.Prelude.{IsTrue}
 use Rattle.std.specs.List.{All}
 use Rattle.std.proofs.lemmas.List.{map-append}
@@ -13,17 +13,17 @@ use Rattle.cp_logic.specs.Locality.{after}
 use Rattle.cp_yard.specs.Views.{Base, Note, Got, GotTurn, Met, MetTurn, SeatView}
 use Rattle.cp_hood.specs.Hoods.{HoodView, centre_clauses}
 use Rattle.cp_hood.specs.Seats.{GoesOn, EndWith}
-use Rattle.std.specs.Prelude.{Result, Err, IfOk, ◌⊎◌}
-use Rattle.cp_occ.specs.Cells.{CellView}
+use Rattle.std.specs.Prelude.{Result, Err, IfOk}
 use Rattle.cp_hood.specs.Commits.{left_by, post_after, IsCommit}
 use Rattle.cp_hood.proofs.Going.{GoesOn-none, GoesOn-then}
 use Rattle.cp_hood.specs.Tries.{IsWhole, IsCut, IsTooWide, gots, other_cells}
 use Rattle.cp_hood.specs.declared.answers.CommitAnswer.{CommitAnswer}
 use Rattle.cp_hood.specs.declared.answers.CommitAnswer.TheVariants.{TurnHeld, Refuted, Spent, Numbers, NoMemory}
 use Rattle.cp_worker.specs.declared.answer.AtAnswer.{AtAnswer}
-use Rattle.cp_worker.specs.declared.answer.AtAnswer.TheVariants.{Settled, Busy, Wide}
+use Rattle.cp_worker.specs.declared.answer.AtAnswer.TheVariants.{Settled, Busy, Wide, TurnHeld as Late, Stopped}
+use Rattle.cp_logic.specs.declared.settings.Stop.TheVariants.{Spent as ForBudget, Numbers as ForNumbers, Refuted as ForRefutation}
 use Rattle.cp_logic.specs.Lists.{Roomy}
-use Rattle.cp_worker.specs.Visits.{positions, commits_of, clauses_after, IsPostOf, IsSettled, IsVisit}
+use Rattle.cp_worker.specs.Visits.{positions, commits_of, clauses_after, IsPostOf, IsVisit}
 use Rattle.cp_worker.specs.Posting.{HasPosted, IsRefusal, IsCauseOf}
 use Rattle.cp_worker.proofs.Centres.{posted-at, centre-after}
 
@@ -99,16 +99,30 @@ notes-joined before more ns ms n = append_assoc before (n ∷ (more ++ ns)) ms �
 
 -- where an entry is refused at last
 pub refuses : (v w : SeatView) (x in_round limit : ℕ) (cs now : List Named) (listed : List ℕ) (before more noted : List Note) (way : IsUnderWay v w x in_round cs now listed)
-    (e : Entry) (a : CommitAnswer) (answer : AtAnswer) → IsTrue (is_at x e) → IsRefusal w.base e noted a → commits_of answer ≡ listed → IsCauseOf a answer
+    (e : Entry) (a : CommitAnswer) (answer : AtAnswer) → first_in now v.base.rules 1 x ≡ Some e → IsRefusal w.base e noted a → commits_of answer ≡ listed → IsCauseOf a answer
     → IsVisit v.base v.number x in_round limit (before ++ Got x cs ∷ (more ++ (way.noted ++ noted))) way.posted answer
-refuses v w x in_round limit cs now listed before more noted way e a answer at r lists cause = record {
+refuses v w x in_round limit cs now listed before more noted way e a answer found r lists cause = record {
   commits = lists ∙ way.commits;
   posts = way.posts;
   at = way.at;
-  cause = cause v.base x limit e (before ++ Got x cs ∷ (more ++ (way.noted ++ noted))) way.posted at
+  cause = cause v.base x limit e (before ++ Got x cs ∷ (more ++ (way.noted ++ noted))) way.posted
+      (before, cs, more ++ (way.noted ++ noted), refl, ap (λ (ds : List Named). first_in ds v.base.rules 1 x) (sym way.clauses) ∙ found)
       (subst (λ (ns : List Note). IsRefusal v.base e ns a) (notes-joined before more way.noted noted (Got x cs))
       (refusal-later v.base e (before ++ Got x cs ∷ (more ++ way.noted)) noted a (subst (λ (f : Base). IsRefusal f e noted a) way.goes.base r)));
 }
+
+-- each refusal of an entry, as a cause
+pub caused-late : (by : ℕ) (commits : Roomy ℕ) → IsCauseOf (TurnHeld by) (Late by commits)
+caused-late by commits f x limit e noted posted gives r = (e, r, gives)
+
+pub caused-refuted : (empty : ℕ) (commits : Roomy ℕ) → IsCauseOf (Refuted empty) (Stopped ForRefutation commits)
+caused-refuted empty commits f x limit e noted posted gives (h, r, stop) = (h, e, r, gives, stop)
+
+pub caused-spent : (len : ℕ) (commits : Roomy ℕ) → IsCauseOf (Spent len) (Stopped ForBudget commits)
+caused-spent len commits f x limit e noted posted gives (h, r, stop) = (h, e, r, gives, stop)
+
+pub caused-numbers : (next : ℕ) (commits : Roomy ℕ) → IsCauseOf (Numbers next) (Stopped ForNumbers commits)
+caused-numbers next commits f x limit e noted posted gives (h, r, stop) = (h, e, r, gives, stop)
 
 -- what a commit that was refused says of it
 pub refusal-of : (f : Base) (worker in_round tries : ℕ) (e : Entry) (old new : HoodView) (notes : List Note) (posts : List (ℕ × Post)) (a : CommitAnswer)

@@ -1,11 +1,12 @@
 -- A shift, visit by visit.
-use Rattle.std.proofs.Common.{◌≡◌, ℕ, ◌+◌, Bool, true, false, List, [], ◌∷◌, ◌++◌, map, append_assoc, append-nil, Option, Some, None, inl, inr, refl, sym, ◌∙◌, ap, subst}
+use Rattle.std.proofs.Common.{◌≡◌, ℕ, ◌+◌, Bool, false, List, [], ◌∷◌, ◌++◌, append_assoc, append-nil, Option, Some, None, inl, inr, refl, sym, ◌∙◌, ap, subst}
 use Rattle.std.specs.Prelude.{◌⊎◌, is_some}
 use Rattle.std.specs.List.{All, Contains}
 use Rattle.std.proofs.lemmas.Bool.{false≢true}
 use Rattle.std.proofs.lemmas.List.{map-append}
 use Rattle.std.proofs.lemmas.List.Elements.{All-nil, All-cons, All-append, All-weaker, All-same, Contains-append_left, Contains-append_right, Contains-push, Contains-push_cases}
 use Rattle.cp_logic.specs.declared.settings.Stop.{Stop}
+use Rattle.cp_logic.specs.Entries.{Entry}
 use Rattle.cp_logic.specs.Journals.{Post}
 use Rattle.cp_logic.proofs.Members.{none_in}
 use Rattle.cp_claim.specs.Views.{View, DrawsOnly}
@@ -18,9 +19,9 @@ use Rattle.cp_worker.specs.declared.lists.BusyAt.{BusyAt}
 use Rattle.cp_worker.specs.declared.lists.LateAt.{LateAt}
 use Rattle.cp_worker.specs.declared.lists.WideAt.{WideAt}
 use Rattle.cp_worker.specs.declared.lists.WorkerShift.{WorkerShift}
-use Rattle.cp_worker.specs.Visits.{IsVisit, HasCause, IsSettled, IsPostOf, positions, commits_of}
+use Rattle.cp_worker.specs.Visits.{IsVisit, HasCause, Gives, IsSettled, IsPostOf, positions, commits_of}
 use Rattle.cp_worker.specs.Listing.{IsListing, busy_of, late_of, wide_of, stopped_after}
-use Rattle.cp_worker.specs.Shifts.{IsShift, IsBusy, IsLate, IsWide, IsAccounted, IsStopped, candidates_of}
+use Rattle.cp_worker.specs.Shifts.{IsShift, IsBusy, IsLate, IsWide, IsAccounted, IsLast, IsStopped}
 use Rattle.cp_worker.proofs.Commits.{EndWith-later}
 
 in_end : (n : Note) (before noted : List Note) → EndWith n noted → Contains (before ++ noted) n
@@ -48,7 +49,7 @@ module _ (f : Base) (number x in_round limit : ℕ) (noted more : List Note) (po
   late_here (Settled commits) h = All-nil (IsLate (noted ++ more))
   late_here (Busy var by) h = All-nil (IsLate (noted ++ more))
   late_here (Wide count) h = All-nil (IsLate (noted ++ more))
-  late_here (TurnHeld by commits) h = All-cons (IsLate (noted ++ more)) (record { at = x; by = by }) [] (in_end (MetTurn by) noted more h) (All-nil (IsLate (noted ++ more)))
+  late_here (TurnHeld by commits) h = All-cons (IsLate (noted ++ more)) (record { at = x; by = by }) [] (in_end (MetTurn by) noted more h.1) (All-nil (IsLate (noted ++ more)))
   late_here (Stopped stop commits) h = All-nil (IsLate (noted ++ more))
 
   wide_here : (answer : AtAnswer) → HasCause f x limit more posts answer → All (IsWide limit (noted ++ more)) (wide_of x answer)
@@ -59,26 +60,24 @@ module _ (f : Base) (number x in_round limit : ℕ) (noted more : List Note) (po
   wide_here (TurnHeld by commits) h = All-nil (IsWide limit (noted ++ more))
   wide_here (Stopped stop commits) h = All-nil (IsWide limit (noted ++ more))
 
-  stopped_here : (answer : AtAnswer) (stop : Stop) (o now : Option Stop) → HasCause f x limit more posts answer → o ≡ None → now ≡ stopped_after answer o → now ≡ Some stop
-      → IsStopped f (noted ++ more) stop
-  stopped_here (Settled commits) stop o now h n e s = absurd (none_some o stop n (sym e ∙ s))
-  stopped_here (Busy var by) stop o now h n e s = absurd (none_some o stop n (sym e ∙ s))
-  stopped_here (Wide count) stop o now h n e s = absurd (none_some o stop n (sym e ∙ s))
-  stopped_here (TurnHeld by commits) stop o now h n e s = absurd (none_some o stop n (sym e ∙ s))
-  stopped_here (Stopped found commits) stop o now (j, entry, ended, at, refused) n e s =
-      subst (IsStopped f (noted ++ more)) (some_same found stop (sym e ∙ s)) (j, entry, EndWith-later (GotTurn j) noted more ended, refused)
+  gives_later : (y : ℕ) (own : List (ℕ × Post)) (o : Option Entry) → Gives f y more own o → Gives f y (noted ++ more) own o
+  gives_later y own o (before, cs, after, e, found) = (noted ++ before, cs, after, ap (λ (ns : List Note). noted ++ ns) e ∙ sym (append_assoc noted before (Got y cs ∷ after)), found)
+
+  stopped_here : (answer : AtAnswer) (stop : Stop) (earlier : List ℕ) (o now : Option Stop) → HasCause f x limit more posts answer → o ≡ None → now ≡ stopped_after answer o → now ≡ Some stop
+      → IsStopped f (noted ++ more) (posted ++ posts) (earlier ++ x ∷ []) stop
+  stopped_here (Settled commits) stop earlier o now h n e s = absurd (none_some o stop n (sym e ∙ s))
+  stopped_here (Busy var by) stop earlier o now h n e s = absurd (none_some o stop n (sym e ∙ s))
+  stopped_here (Wide count) stop earlier o now h n e s = absurd (none_some o stop n (sym e ∙ s))
+  stopped_here (TurnHeld by commits) stop earlier o now h n e s = absurd (none_some o stop n (sym e ∙ s))
+  stopped_here (Stopped found commits) stop earlier o now (j, entry, ended, gives, refused) n e s =
+      subst (IsStopped f (noted ++ more) (posted ++ posts) (earlier ++ x ∷ [])) (some_same found stop (sym e ∙ s))
+      (x, (earlier, refl), (posted, posts, refl, (j, entry, EndWith-later (GotTurn j) noted more ended, gives_later x posts (Some entry) gives, refused)))
 
   -- the candidate itself
   account_here : (answer : AtAnswer) (old new : WorkerShift) → HasCause f x limit more posts answer → IsListing x answer old new
-      → IsAccounted f (noted ++ more) (posted ++ posts) new x ⊎ ((stop : Stop) × (new.stopped ≡ Some stop))
-  account_here (Settled commits) old new (before, cs, after, e, none) l =
-      inl (inr (inr (inr (
-        posted,
-        posts,
-        [],
-        ap (λ (ps : List (ℕ × Post)). posted ++ ps) (sym (append-nil posts)),
-        (noted ++ before, cs, after, ap (λ (ns : List Note). noted ++ ns) e ∙ sym (append_assoc noted before (Got x cs ∷ after)), none),
-      ))))
+      → IsAccounted f (noted ++ more) (posted ++ posts) new x ⊎ (IsLast x new.taken.items × ((stop : Stop) × (new.stopped ≡ Some stop)))
+  account_here (Settled commits) old new h l =
+      inl (inr (inr (inr (posted, posts, [], ap (λ (ps : List (ℕ × Post)). posted ++ ps) (sym (append-nil posts)), gives_later x posts None h))))
   account_here (Busy var by) old new h l =
       let b : BusyAt = record { at = x; var = var; by = by } in
       inl (inl (b, subst (λ (bs : List BusyAt). Contains bs b) (sym l.busy) (Contains-push old.busy.items b), refl))
@@ -88,7 +87,7 @@ module _ (f : Base) (number x in_round limit : ℕ) (noted more : List Note) (po
   account_here (TurnHeld by commits) old new h l =
       let b : LateAt = record { at = x; by = by } in
       inl (inr (inl (b, subst (λ (bs : List LateAt). Contains bs b) (sym l.late) (Contains-push old.late.items b), refl)))
-  account_here (Stopped stop commits) old new h l = inr (stop, l.stopped)
+  account_here (Stopped stop commits) old new h l = inr ((old.taken.items, l.taken), (stop, l.stopped))
 
   settled_later : (y : ℕ) (own : List (ℕ × Post)) → IsSettled f y noted own → IsSettled f y (noted ++ more) own
   settled_later y own (before, cs, after, e, none) = (before, cs, after ++ more, ap (λ (ns : List Note). ns ++ more) e ∙ append_assoc before (Got y cs ∷ after) more, none)
@@ -149,12 +148,13 @@ visits-more f number in_round limit noted more posted posts drawn n answer old n
   accounted = λ x i. elim (Contains-push_cases old.taken.items (n + 1) x (subst (λ (xs : List ℕ). Contains xs x) l.taken i)) [
     | inl j ↦ elim (s.accounted x j) [
       | inl a ↦ inl (account_later f number (n + 1) in_round limit noted more posted posts answer old new x l a)
-      | inr e ↦ absurd (none_some old.stopped e.0 unstopped e.1)
+      | inr e ↦ absurd (none_some old.stopped e.1.0 unstopped e.1.1)
     ]
-    | inr e ↦ subst (λ z. IsAccounted f (noted ++ more) (posted ++ posts) new z ⊎ ((stop : Stop) × (new.stopped ≡ Some stop))) e
+    | inr e ↦ subst (λ z. IsAccounted f (noted ++ more) (posted ++ posts) new z ⊎ (IsLast z new.taken.items × ((stop : Stop) × (new.stopped ≡ Some stop)))) e
         (account_here f number (n + 1) in_round limit noted more posted posts answer old new v.cause l)
   ];
-  stopped = λ stop e. stopped_here f number (n + 1) in_round limit noted more posted posts answer stop old.stopped new.stopped v.cause unstopped l.stopped e;
+  stopped = λ stop e. subst (λ (xs : List ℕ). IsStopped f (noted ++ more) (posted ++ posts) xs stop) (sym l.taken)
+      (stopped_here f number (n + 1) in_round limit noted more posted posts answer stop old.taken.items old.stopped new.stopped v.cause unstopped l.stopped e);
 }
 
 -- a shift under way: what was noted, posted and drawn, and what is listed of it

@@ -1,6 +1,6 @@
 -- A commit at a variable lowers the size of the variable's clauses.
 use Rattle.std.proofs.Common.{◌≡◌, ℕ, ◌+◌, ◌<◌, ◌≤◌, Bool, true, false, List, [], ◌∷◌, ◌++◌, length, refl, sym, ◌∙◌, ap, subst, inl, inr, not, arith}
-use Rattle.std.specs.Prelude.{◌⊎◌, ◌==◌, ◌&&◌, map}
+use Rattle.std.specs.Prelude.{◌==◌, ◌&&◌, map}
 use Rattle.std.specs.List.{Contains, filter, flat_map}
 use Rattle.std.proofs.lemmas.Bool.{false≢true, and_from, eqb-true, eq-eqb, not_from_true}
 use Rattle.std.proofs.lemmas.List.Elements.{Contains-append_left, Contains-append_right}
@@ -12,7 +12,7 @@ use Rattle.cp_logic.specs.Formulas.{numbers_of, without_numbers, occurrences}
 use Rattle.cp_logic.specs.Entries.{Entry, Taut, Subsume, Strengthen, Block, Eliminate, Look, is_at}
 use Rattle.cp_logic.specs.Legality.{applies, resolvents}
 use Rattle.cp_logic.specs.Locality.{after}
-use Rattle.cp_logic.proofs.Members.{in_map, of_map, of_filter, of_flat_map, in_cases, in_here, none_in, any_from, any_member, contains-in, in_contains}
+use Rattle.cp_logic.proofs.Members.{in_map, of_map, of_filter, of_flat_map, in_here, any_from, any_member, contains-in, in_contains}
 use Rattle.cp_logic.proofs.LiteralFacts.{same_variable, variable_of-positive, negated-positive}
 use Rattle.cp_logic.proofs.SetFacts.{of_without, of_resolvent, tautology-from}
 use Rattle.cp_logic.proofs.Parts.{IsStrengthen, IsEliminate, taut-parts, subsume-parts, strengthen-parts, block-parts, eliminate-parts}

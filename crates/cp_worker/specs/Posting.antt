@@ -1,7 +1,7 @@
 -- The tries and the posts within a visit.
-use Rattle.std.specs.Prelude.{◌≡◌, ℕ, Err, List, [], ◌∷◌, ◌++◌, length, IsTrue}
+use Rattle.std.specs.Prelude.{◌≡◌, ℕ, Some, Err, List, [], ◌∷◌, ◌++◌, length}
 use Rattle.cp_logic.specs.declared.settings.Stop.TheVariants.{Spent as ForBudget, Numbers as ForNumbers, Refuted as ForRefutation}
-use Rattle.cp_logic.specs.Entries.{Entry, is_at}
+use Rattle.cp_logic.specs.Entries.{Entry}
 use Rattle.cp_logic.specs.Journals.{Post}
 use Rattle.cp_yard.specs.Views.{Base, Note, GotTurn, MetTurn}
 use Rattle.cp_hood.specs.declared.answers.CommitAnswer.{CommitAnswer}
@@ -12,7 +12,7 @@ use Rattle.cp_hood.specs.Seats.{EndWith}
 use Rattle.cp_hood.specs.Tries.{IsTry}
 use Rattle.cp_hood.specs.Commits.{IsHoodAfter, IsStopAfter, post_after}
 use Rattle.cp_worker.specs.declared.answer.AtAnswer.{AtAnswer}
-use Rattle.cp_worker.specs.Visits.{HasCause, IsVisit}
+use Rattle.cp_worker.specs.Visits.{Gives, HasCause, IsVisit}
 
 -- the entry was posted after some journal, the hood's cells followed, and the position is listed at the end
 pub record HasPosted (f : Base) (worker round : ℕ) (e : Entry) (old new : HoodView) (listed now : List ℕ) (posted : List (ℕ × Post)) : Type 0 where
@@ -29,10 +29,10 @@ IsRefusal f e noted (Spent len) = (h : List Post) × EndWith (GotTurn h) noted �
 IsRefusal f e noted (Numbers next) = (h : List Post) × EndWith (GotTurn h) noted × IsStopAfter f h e ForNumbers
 IsRefusal f e noted NoMemory = Unit {0}
 
--- such a refusal of an entry at x is the cause of the answer
+-- such a refusal of the entry that the search gave at x is the cause of the answer
 abbrev pub IsCauseOf : CommitAnswer → AtAnswer → Type 0
 IsCauseOf refusal answer =
-    (f : Base) (x limit : ℕ) (e : Entry) (noted : List Note) (posted : List (ℕ × Post)) → IsTrue (is_at x e) → IsRefusal f e noted refusal
+    (f : Base) (x limit : ℕ) (e : Entry) (noted : List Note) (posted : List (ℕ × Post)) → Gives f x noted posted (Some e) → IsRefusal f e noted refusal
     → HasCause f x limit noted posted answer
 
 -- where the last try of x was refused thus, the visit comes to the answer

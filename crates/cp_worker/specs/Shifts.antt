@@ -1,19 +1,16 @@
 -- A shift: the visits of one worker in one round.
-use Rattle.std.specs.Prelude.{◌≡◌, ◌⊎◌, ℕ, ◌+◌, ◌<◌, Some, List, map, length, ◌++◌}
+use Rattle.std.specs.Prelude.{◌≡◌, ◌⊎◌, ℕ, ◌+◌, ◌<◌, Some, List, [], ◌∷◌, map, length, ◌++◌}
 use Rattle.std.specs.List.{All, Contains}
 use Rattle.cp_logic.specs.declared.named.Named.{Named}
 use Rattle.cp_logic.specs.declared.settings.Stop.{Stop}
 use Rattle.cp_logic.specs.Formulas.{neighbourhood}
-use Rattle.cp_logic.specs.Entries.{Entry}
 use Rattle.cp_logic.specs.Journals.{Post}
-use Rattle.cp_yard.specs.Views.{Base, Note, Got, GotTurn, Met, MetTurn}
-use Rattle.cp_hood.specs.Seats.{EndWith}
-use Rattle.cp_hood.specs.Commits.{IsStopAfter}
+use Rattle.cp_yard.specs.Views.{Base, Note, Got, Met, MetTurn}
 use Rattle.cp_worker.specs.declared.lists.BusyAt.{BusyAt}
 use Rattle.cp_worker.specs.declared.lists.LateAt.{LateAt}
 use Rattle.cp_worker.specs.declared.lists.WideAt.{WideAt}
 use Rattle.cp_worker.specs.declared.lists.WorkerShift.{WorkerShift}
-use Rattle.cp_worker.specs.Visits.{positions, IsPostOf, IsSettled}
+use Rattle.cp_worker.specs.Visits.{positions, IsPostOf, IsSettled, EndsStopped}
 
 -- the candidates of the numbers drawn: variables are counted from 1
 abbrev pub candidates_of : List ℕ → List ℕ
@@ -36,9 +33,14 @@ IsAccounted f noted posted s x =
     ⊎ (((w : WideAt) × Contains s.wide.items w × (w.at ≡ x))
     ⊎ ((before own more : List (ℕ × Post)) × (posted ≡ before ++ (own ++ more)) × IsSettled f x noted own)))
 
--- the shift ended at a turn that it got, where an entry was refused for this reason
-abbrev pub IsStopped : Base → List Note → Stop → Type 0
-IsStopped f noted stop = (h : List Post) × (e : Entry) × EndWith (GotTurn h) noted × IsStopAfter f h e stop
+-- x is the last of the candidates
+abbrev pub IsLast : ℕ → List ℕ → Type 0
+IsLast x taken = (earlier : List ℕ) × (taken ≡ earlier ++ x ∷ [])
+
+-- the visit of the last candidate stopped, for this reason, after some of these posts, which are the last ones
+abbrev pub IsStopped : Base → List Note → List (ℕ × Post) → List ℕ → Stop → Type 0
+IsStopped f noted posted taken stop =
+    (x : ℕ) × IsLast x taken × ((before own : List (ℕ × Post)) × (posted ≡ before ++ own) × EndsStopped f x noted own stop)
 
 -- what a shift of the worker in the round comes to, with the numbers that it drew
 pub record IsShift (f : Base) (number in_round limit : ℕ) (noted : List Note) (posted : List (ℕ × Post)) (drawn : List ℕ) (s : WorkerShift) : Type 0 where
@@ -51,5 +53,5 @@ pub record IsShift (f : Base) (number in_round limit : ℕ) (noted : List Note) 
   pub late : All (IsLate noted) s.late.items
   pub wide : All (IsWide limit noted) s.wide.items
   -- each candidate is accounted for, but the last of a shift that stopped
-  pub accounted : (x : ℕ) → Contains s.taken.items x → IsAccounted f noted posted s x ⊎ ((stop : Stop) × (s.stopped ≡ Some stop))
-  pub stopped : (stop : Stop) → s.stopped ≡ Some stop → IsStopped f noted stop
+  pub accounted : (x : ℕ) → Contains s.taken.items x → IsAccounted f noted posted s x ⊎ (IsLast x s.taken.items × ((stop : Stop) × (s.stopped ≡ Some stop)))
+  pub stopped : (stop : Stop) → s.stopped ≡ Some stop → IsStopped f noted posted s.taken.items stop

@@ -1,8 +1,7 @@
 -- A visit: all that a worker does at one candidate.
-use Rattle.std.specs.Prelude.{◌≡◌, ℕ, ◌<◌, None, List, [], ◌∷◌, ◌++◌, map, length, IsTrue}
+use Rattle.std.specs.Prelude.{◌≡◌, ℕ, ◌<◌, Option, Some, None, List, [], ◌∷◌, ◌++◌, map, length, IsTrue}
 use Rattle.std.specs.List.{All}
 use Rattle.cp_logic.specs.declared.named.Named.{Named}
-use Rattle.cp_logic.specs.declared.settings.Opts.{Opts}
 use Rattle.cp_logic.specs.declared.settings.Stop.{Stop}
 use Rattle.cp_logic.specs.Formulas.{neighbourhood}
 use Rattle.cp_logic.specs.Entries.{Entry, is_at}
@@ -36,27 +35,36 @@ abbrev pub clauses_after : ℕ → List Named → List (ℕ × Post) → List Na
 clauses_after x cs [] = cs
 clauses_after x cs (q ∷ qs) = clauses_after x (after cs x q.1.entry) qs
 
--- x was got with some clauses, and after these posts nothing applies among them
-abbrev pub IsSettled : Base → ℕ → List Note → List (ℕ × Post) → Type 0
-IsSettled f x noted posted =
+-- x was got with some clauses, and among those, after these posts, the search gives this
+abbrev pub Gives : Base → ℕ → List Note → List (ℕ × Post) → Option Entry → Type 0
+Gives f x noted posted found =
     (before : List Note) × (cs : List Named) × (more : List Note)
-    × (noted ≡ before ++ Got x cs ∷ more) × (first_in (clauses_after x cs posted) f.rules 1 x ≡ None)
+    × (noted ≡ before ++ Got x cs ∷ more) × (first_in (clauses_after x cs posted) f.rules 1 x ≡ found)
+
+-- and there, after these posts, nothing applies
+abbrev pub IsSettled : Base → ℕ → List Note → List (ℕ × Post) → Type 0
+IsSettled f x noted posted = Gives f x noted posted None
 
 -- x was got last, and its neighbourhood has this many variables, more than the limit
 abbrev pub EndsTooWide : ℕ → ℕ → List Note → ℕ → Type 0
 EndsTooWide x limit noted count = (cs : List Named) × EndWith (Got x cs) noted × (count ≡ length (neighbourhood cs x)) × (limit < count)
 
--- the turn was got last, and an entry at x was refused there, for this reason
-abbrev pub EndsStopped : Base → ℕ → List Note → Stop → Type 0
-EndsStopped f x noted stop = (h : List Post) × (e : Entry) × EndWith (GotTurn h) noted × IsTrue (is_at x e) × IsStopAfter f h e stop
+-- the turn was met last, with this seat, for an entry that the search gave
+abbrev pub EndsLate : Base → ℕ → List Note → List (ℕ × Post) → ℕ → Type 0
+EndsLate f x noted posted by = (e : Entry) × EndWith (MetTurn by) noted × Gives f x noted posted (Some e)
+
+-- the turn was got last, and the entry that the search gave was refused there, for this reason
+abbrev pub EndsStopped : Base → ℕ → List Note → List (ℕ × Post) → Stop → Type 0
+EndsStopped f x noted posted stop =
+    (h : List Post) × (e : Entry) × EndWith (GotTurn h) noted × Gives f x noted posted (Some e) × IsStopAfter f h e stop
 
 -- why the visit ended so
 abbrev pub HasCause : Base → ℕ → ℕ → List Note → List (ℕ × Post) → AtAnswer → Type 0
 HasCause f x limit noted posted (Settled commits) = IsSettled f x noted posted
 HasCause f x limit noted posted (Busy var by) = EndWith (Met var by) noted
 HasCause f x limit noted posted (Wide count) = EndsTooWide x limit noted count
-HasCause f x limit noted posted (TurnHeld by commits) = EndWith (MetTurn by) noted
-HasCause f x limit noted posted (Stopped stop commits) = EndsStopped f x noted stop
+HasCause f x limit noted posted (TurnHeld by commits) = EndsLate f x noted posted by
+HasCause f x limit noted posted (Stopped stop commits) = EndsStopped f x noted posted stop
 
 -- what a visit of x in the round comes to: the posts are the worker's, at x, and the answer lists them and says why it ended
 pub record IsVisit (f : Base) (worker x round limit : ℕ) (noted : List Note) (posted : List (ℕ × Post)) (answer : AtAnswer) : Type 0 where

@@ -1,12 +1,9 @@
-use Rattle.std.proofs.Common.{◌≡◌, ◌∙◌, ◌++◌, ◌∷◌, List, Some, None, refl, sym, ap, subst}
-use Rattle.std.specs.Prelude.{IsTrue}
+use Rattle.std.proofs.Common.{◌≡◌, ◌∙◌, ◌++◌, ◌∷◌, Some, None, refl, sym, ap}
 use Rattle.std.specs.Option.{option_map}
 use Rattle.std.proofs.lemmas.Result.{IfOk-weaker}
-use Rattle.cp_logic.specs.declared.settings.Rules.{Rules}
-use Rattle.cp_logic.specs.Entries.{is_at}
 use Rattle.cp_logic.specs.Legality.{first_in}
 use Rattle.cp_logic.specs.Views.{entry_of}
-use Rattle.cp_yard.specs.Views.{Base, Note, Got}
+use Rattle.cp_yard.specs.Views.{Base, Got}
 use Rattle.cp_hood.specs.Hoods.{centre_clauses}
 use Rattle.cp_hood.specs.Commits.{left_by}
 use Rattle.cp_worker.specs.Visits.{IsVisit, commits_of}
@@ -55,15 +52,16 @@ pub returns-in-Err-clause-visit : goal.returns-in-Err-clause-visit
 returns-in-Err-clause-visit c =
     let i = c.commits.invariant in let k = c.in-Err.ensures.post in let e = entry_of c.in-Some.entry in
     let v = c.args.seat.now.view in let x = c.args.hood.now.centre in let cs = centre_clauses c.args.hood.now in
-    let found = found-at c.commits.hood c.centre.result.now c.args.rules.now c.args.yard.now.base.rules c.in_ok-entry.field-0 c.centre.ensures.variable c.centre.ensures.clauses c.requires.rules c.in_ok-entry.ensures
-    ∙ ap (option_map entry_of) c.in-Some.is in
-    let at_x : IsTrue (is_at x e) = subst (λ z. IsTrue (is_at z e)) i.centre (legal-found c.args.yard.now.base.rules c.commits.hood e found).at in (
+    let found : first_in (centre_clauses c.commits.hood) v.base.rules 1 x ≡ Some e = ap (λ z. first_in (centre_clauses c.commits.hood) v.base.rules 1 z) (sym i.centre)
+    ∙ found-at c.commits.hood c.centre.result.now c.args.rules.now v.base.rules c.in_ok-entry.field-0 c.centre.ensures.variable c.centre.ensures.clauses
+    (c.requires.rules ∙ sym (ap (λ (f : Base). f.rules) c.requires.base)) c.in_ok-entry.ensures
+    ∙ ap (option_map entry_of) c.in-Some.is in (
       i.going.noted ++ k.0,
       i.going.posted,
       refused-goes v c.commits.seat.view c.commit_listed.new.seat.view x c.args.round cs (centre_clauses c.commits.hood) c.commits.commits.items k.0 k.1 i.going k.2 k.4.0,
       λ limit before more. IfOk-weaker c.refused.result (λ a. (commits_of a ≡ c.commit_listed.new.commits.items) × IsCauseOf c.in-Err.answer a)
           (IsVisit v.base v.number x c.args.round limit (before ++ Got x cs ∷ (more ++ (i.going.noted ++ k.0))) i.going.posted)
-          (λ a h. refuses v c.commits.seat.view x c.args.round limit cs (centre_clauses c.commits.hood) c.commits.commits.items before more k.0 i.going e c.in-Err.answer a at_x k.4.1 (h.0 ∙ c.in-Err.ensures.same) h.1)
+          (λ a h. refuses v c.commits.seat.view x c.args.round limit cs (centre_clauses c.commits.hood) c.commits.commits.items before more k.0 i.going e c.in-Err.answer a found k.4.1 (h.0 ∙ c.in-Err.ensures.same) h.1)
           c.refused.ensures,
     )
 

@@ -1,8 +1,7 @@
-use Rattle.std.proofs.Common.{◌∙◌, ap, length, List, [], ◌∷◌, ◌++◌, ℕ}
+use Rattle.std.proofs.Common.{◌∙◌, ap, List, [], ◌∷◌, ◌++◌, ℕ}
 use Rattle.cp_logic.specs.Views.{entry_of}
 use Rattle.cp_hood.specs.Commits.{post_after}
 use Rattle.cp_worker.proofs.Centres.{HoldsJust-same, legal-same, after-prepared}
-use Rattle.cp_worker.proofs.Commits.{refusal-of}
 use Rattle.cp_worker.proofs.visiting.commit_listed.Goals as goal
 
 pub returns-in_default-clause-holds : goal.returns-in_default-clause-holds

@@ -1,6 +1,5 @@
 use Rattle.std.proofs.Common.{◌≡◌, ◌+◌, ◌++◌, ◌∷◌, [], List, ℕ, length, length-append, refl, sym, ◌∙◌, ap, subst, arith}
 use Rattle.cp_claim.specs.Views.{View}
-use Rattle.cp_hood.proofs.Going.{GoesOn-then}
 use Rattle.cp_worker.proofs.Shifting.{IsGoing, starts, starts-shift, more_going, draws-then, none_from}
 use Rattle.cp_worker.proofs.working.shift.Goals as goal
 
