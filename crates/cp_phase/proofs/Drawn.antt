@@ -1,7 +1,14 @@
 -- What the members of a round drew and did.
-use Rattle.std.proofs.Common.{◌≡◌, ◌≢◌, ℕ, zero, suc, ◌+◌, ◌-◌, ◌<◌, ◌≤◌, min, eqb, Bool, true, false, Option, List, [], ◌∷◌, ◌++◌, length, map, get_or, take, drop, flat_map, slice_get, option_map, is_some, Some, None, All, count_by, sum_by, refl, sym, ap, subst, ◌∙◌, ⊎_elim, arith, eq-eqb}
+use Rattle.std.proofs.Common.{◌≡◌, ◌≢◌, ℕ, zero, suc, ◌+◌, ◌<◌, ◌≤◌, min, eqb, Bool, Option, List, [], ◌∷◌, ◌++◌, length, map, get_or, take, drop, flat_map, slice_get, option_map, is_some, Some, None, All, count_by, refl, sym, ap, subst, ◌∙◌, arith}
 use Rattle.std.specs.Prelude.{◌==◌, if◌then◌else◌}
 use Rattle.std.specs.List.{AllZip}
+use Rattle.std.specs.Prelude.{Result, Ok, Err, IfOk}
+use Rattle.std.specs.Result.{result_ok}
+use Rattle.std.specs.Option.{ForSome}
+use Rattle.cp_logic.specs.Journals.{Post}
+use Rattle.cp_yard.specs.Views.{Note, SeatView}
+use Rattle.cp_hood.specs.Seats.{GoesOn}
+use Rattle.cp_worker.specs.Shifts.{IsShift}
 use Rattle.std.proofs.lemmas.Option.{slice_get-map}
 use Rattle.std.proofs.lemmas.List.Elements.{All-cons}
 use Rattle.std.proofs.lemmas.List.Sums.{sum_by-cons, sum_by-append}
@@ -37,11 +44,29 @@ pub length-members : (c : Counter) (k : ℕ) (seats : List Sitting) → length (
 length-members c k [] = refl
 length-members c k (s ∷ ss) = ap suc (length-members c (k + 1) ss)
 
+-- ---- a shift
+
+for_some : {E : Type 0} (r : Result WorkerShift E) (o : Option WorkerShift) (P Q : WorkerShift → Type 0) → o ≡ result_ok r → IfOk r P → ((s : WorkerShift) → P s → Q s) → ForSome o Q
+for_some (Ok s) o P Q e h to = λ v at. subst Q (some_same s v (sym e ∙ at)) (to s h)
+for_some (Err x) o P Q e h to = λ v at. absurd (none_some v (sym e ∙ at))
+
+-- what the shift of a member says of its seat and its claim seat
+pub worked : {E : Type 0} (limit in_round : ℕ) (v w : SeatView) (c d : View) (r : Result WorkerShift E) (o : Option WorkerShift) → o ≡ result_ok r
+    → IfOk r (λ s. (noted : List Note) × (posted : List (ℕ × Post)) × (drawn : List ℕ) × GoesOn v w noted posted × (d.drawn ≡ c.drawn ++ drawn) × IsShift v.base v.number in_round limit noted posted drawn s)
+    → ForSome o (IsWork limit in_round v w)
+worked limit in_round v w c d r o e h = for_some r o _ (IsWork limit in_round v w) e h (λ s k. record { noted = k.0; posted = k.1; drawn = k.2; goes = k.3; shift = k.5 })
+
+pub taken : {E : Type 0} (limit in_round : ℕ) (v w : SeatView) (c d : View) (r : Result WorkerShift E) (o : Option WorkerShift) → o ≡ result_ok r
+    → IfOk r (λ s. (noted : List Note) × (posted : List (ℕ × Post)) × (drawn : List ℕ) × GoesOn v w noted posted × (d.drawn ≡ c.drawn ++ drawn) × IsShift v.base v.number in_round limit noted posted drawn s)
+    → IfOk r (λ s. s.stopped ≡ None → (word : ℕ) × (d.mine.end ≡ Some word)) → ForSome o (IsTaken c d)
+taken limit in_round v w c d (Ok s) o e k l = λ t at. subst (IsTaken c d) (some_same s t (sym e ∙ at)) (record { drawn = k.2; claims = k.4; taken = k.5.taken; ended = l })
+taken limit in_round v w c d (Err x) o e k l = λ t at. absurd (none_some t (sym e ∙ at))
+
 number_of : (v w : View) → DrawsOnly v w → w.mine.number ≡ v.mine.number
 number_of v w e = ap (λ (z : View). z.mine.number) e
 
-module _ (c : Counter) (r : ℕ) where
-  pub counters : (k : ℕ) (seats : List Sitting) (ms : List Member) → 0 < k → AllZip (HasWorked r) (members_from c k seats) ms → All (λ m. (m.claim.counter ≡ c) × (m.claim.view.mine.number ≢ 0)) ms
+module _ (c : Counter) (limit r : ℕ) where
+  pub counters : (k : ℕ) (seats : List Sitting) (ms : List Member) → 0 < k → AllZip (HasWorked limit r) (members_from c k seats) ms → All (λ m. (m.claim.counter ≡ c) × (m.claim.view.mine.number ≢ 0)) ms
   counters k [] [] low h = λ i d less. absurd (omega arith)
   counters k [] (m ∷ ms) low h = absurd h
   counters k (s ∷ ss) [] low h = absurd h
@@ -51,7 +76,7 @@ module _ (c : Counter) (r : ℕ) where
       (counters (k + 1) ss ms (omega arith) h.1)
 
   -- each claim seat's number is among those of the members
-  pub numbered : (k : ℕ) (seats : List Sitting) (ms : List Member) → AllZip (HasWorked r) (members_from c k seats) ms → (w : ℕ) → k ≤ w → w < k + length seats → 0 < times_named w (claim_shares ms)
+  pub numbered : (k : ℕ) (seats : List Sitting) (ms : List Member) → AllZip (HasWorked limit r) (members_from c k seats) ms → (w : ℕ) → k ≤ w → w < k + length seats → 0 < times_named w (claim_shares ms)
   numbered k [] [] h w low high = absurd (omega arith)
   numbered k [] (m ∷ ms) h w low high = absurd h
   numbered k (s ∷ ss) [] h w low high = absurd h
@@ -63,7 +88,7 @@ module _ (c : Counter) (r : ℕ) where
       (λ ne. let later = numbered (k + 1) ss ms h.1 w (omega arith) (omega arith) in omega arith)
 
   -- the numbers drawn are those of the candidates taken
-  pub taken_are : (k : ℕ) (seats : List Sitting) (ms : List Member) (ss : List WorkerShift) → AllZip (HasWorked r) (members_from c k seats) ms → shifts_of ms ≡ map Some ss
+  pub taken_are : (k : ℕ) (seats : List Sitting) (ms : List Member) (ss : List WorkerShift) → AllZip (HasWorked limit r) (members_from c k seats) ms → shifts_of ms ≡ map Some ss
       → flat_map (λ s. s.taken.items) ss ≡ candidates_of (drawn_of_all ms)
   taken_are k [] [] [] h e = refl
   taken_are k [] [] (s ∷ ss) h e = absurd (let n = ap length e in omega arith)
@@ -85,7 +110,7 @@ module _ (c : Counter) (r : ℕ) where
       map-append (x ∷ xs) ys = ap (λ zs. (x + 1) ∷ zs) (map-append xs ys)
 
   -- where the first shift didn't stop, its claim seat has ended
-  pub some_ended : (k : ℕ) (seats : List Sitting) (ms : List Member) (ss : List WorkerShift) → 0 < length seats → AllZip (HasWorked r) (members_from c k seats) ms → shifts_of ms ≡ map Some ss
+  pub some_ended : (k : ℕ) (seats : List Sitting) (ms : List Member) (ss : List WorkerShift) → 0 < length seats → AllZip (HasWorked limit r) (members_from c k seats) ms → shifts_of ms ≡ map Some ss
       → NoneStopped ss → 0 < ends (claim_shares ms)
   some_ended k [] ms ss low h e none = absurd (omega arith)
   some_ended k (v ∷ vs) [] ss low h e none = absurd h
@@ -99,15 +124,15 @@ module _ (c : Counter) (r : ℕ) where
       omega arith
 
   -- which seat and which member stand at a place
-  pub found_at : (k : ℕ) (seats : List Sitting) (ms : List Member) (i : ℕ) (w : Sitting) → AllZip (HasWorked r) (members_from c k seats) ms → slice_get (seats_of ms) i ≡ Some w
-      → (v : Sitting) × (m : Member) × (n : ℕ) × (slice_get seats i ≡ Some v) × (slice_get ms i ≡ Some m) × HasWorked r (member_of c n v) m × (m.seat ≡ w)
+  pub found_at : (k : ℕ) (seats : List Sitting) (ms : List Member) (i : ℕ) (w : Sitting) → AllZip (HasWorked limit r) (members_from c k seats) ms → slice_get (seats_of ms) i ≡ Some w
+      → (v : Sitting) × (m : Member) × (n : ℕ) × (slice_get seats i ≡ Some v) × (slice_get ms i ≡ Some m) × HasWorked limit r (member_of c n v) m × (m.seat ≡ w)
   found_at k [] [] i w h at = absurd (none_some w at)
   found_at k [] (m ∷ ms) i w h at = absurd h
   found_at k (v ∷ vs) [] i w h at = absurd h
   found_at k (v ∷ vs) (m ∷ ms) zero w h at = (v, m, k, refl, refl, h.0, some_same m.seat w at)
   found_at k (v ∷ vs) (m ∷ ms) (suc i) w h at = found_at (k + 1) vs ms i w h.1 at
 
-  pub seats_after : (y : YardView) (seats : List Sitting) (ms : List Member) → AreSeats y seats → AllZip (HasWorked r) (members_from c 1 seats) ms → AreSeats y (seats_of ms)
+  pub seats_after : (y : YardView) (seats : List Sitting) (ms : List Member) → AreSeats y seats → AllZip (HasWorked limit r) (members_from c 1 seats) ms → AreSeats y (seats_of ms)
   seats_after y seats ms are h i w at = let f = found_at 1 seats ms i w h at in let old = are i f.0 f.3 in let go = f.5.seat.2 in subst (IsSeatOf y i) f.6 record {
     table = f.5.table ∙ old.table;
     base = go.base ∙ old.base;
@@ -117,24 +142,24 @@ module _ (c : Counter) (r : ℕ) where
     idle = f.5.idle;
   }
 
-  pub work_at : (seats : List Sitting) (ms : List Member) (ss : List WorkerShift) → AllZip (HasWorked r) (members_from c 1 seats) ms → shifts_of ms ≡ map Some ss
-      → (i : ℕ) (v w : Sitting) (s : WorkerShift) → slice_get seats i ≡ Some v → slice_get (seats_of ms) i ≡ Some w → slice_get ss i ≡ Some s → IsWork r v.view w.view s
+  pub work_at : (seats : List Sitting) (ms : List Member) (ss : List WorkerShift) → AllZip (HasWorked limit r) (members_from c 1 seats) ms → shifts_of ms ≡ map Some ss
+      → (i : ℕ) (v w : Sitting) (s : WorkerShift) → slice_get seats i ≡ Some v → slice_get (seats_of ms) i ≡ Some w → slice_get ss i ≡ Some s → IsWork limit r v.view w.view s
   work_at seats ms ss h e i v w s at_v at_w at_s =
       let f = found_at 1 seats ms i w h at_w in
       let same : f.0 ≡ v = some_same f.0 v (sym f.3 ∙ at_v) in
       let left : slice_get (shifts_of ms) i ≡ Some f.1.shift = slice_get-map (λ (m : Member). m.shift) ms i ∙ ap (option_map (λ (m : Member). m.shift)) f.4 in
       let right : slice_get (map Some ss) i ≡ Some (Some s) = slice_get-map Some ss i ∙ ap (option_map Some) at_s in
       let is : f.1.shift ≡ Some s = some_same f.1.shift (Some s) (sym left ∙ (ap (λ (l : List (Option WorkerShift)). slice_get l i) e ∙ right)) in
-      subst (λ (z : Sitting × Sitting). IsWork r z.0.view z.1.view s) (λ j. (same j, f.6 j)) (f.5.work s is)
+      subst (λ (z : Sitting × Sitting). IsWork limit r z.0.view z.1.view s) (λ j. (same j, f.6 j)) (f.5.work s is)
 
   -- the members after their work, which was written over those from before
   pub zipped : (seats : List Sitting) (slice news stored : List Member) (k : ℕ) → slice ≡ stored → stored ≡ members_from c 1 seats → length stored ≡ k → length news ≡ length slice
-      → ((i : ℕ) (d : Member) → i < length slice → HasWorked r (get_or slice i d) (get_or news i d)) → AllZip (HasWorked r) (members_from c 1 seats) (take k (news ++ drop (length news) stored))
+      → ((i : ℕ) (d : Member) → i < length slice → HasWorked limit r (get_or slice i d) (get_or news i d)) → AllZip (HasWorked limit r) (members_from c 1 seats) (take k (news ++ drop (length news) stored))
   zipped seats slice news stored k e f long count each =
       let same : take k (news ++ drop (length news) stored) ≡ news = written_over k news stored (count ∙ ap length e) long in
-      subst (λ (z : List Member × List Member). AllZip (HasWorked r) z.0 z.1) (λ i. ((e ∙ f) i, sym same i)) (zip_from (HasWorked r) slice news count each)
+      subst (λ (z : List Member × List Member). AllZip (HasWorked limit r) z.0 z.1) (λ i. ((e ∙ f) i, sym same i)) (zip_from (HasWorked limit r) slice news count each)
 
-  pub members_long : (k : ℕ) (seats : List Sitting) (ms : List Member) → AllZip (HasWorked r) (members_from c k seats) ms → length ms ≡ length seats
+  pub members_long : (k : ℕ) (seats : List Sitting) (ms : List Member) → AllZip (HasWorked limit r) (members_from c k seats) ms → length ms ≡ length seats
   members_long k [] [] h = refl
   members_long k [] (m ∷ ms) h = absurd h
   members_long k (s ∷ ss) [] h = absurd h
@@ -181,36 +206,36 @@ taken_each ss drawn bound e d (suc x) low high =
 -- ---- the round
 
 -- the claim seat that took in those of all members has every number of the claims' seats
-pub alone : (c : Counter) (r : ℕ) (seats : List Sitting) (ms : List Member) (v : View) → v ≡ claims_joined (founder_of c.limit (length seats + 1)) ms → AllZip (HasWorked r) (members_from c 1 seats) ms → IsAlone v
-alone c r seats ms v e h =
+pub alone : (c : Counter) (limit r : ℕ) (seats : List Sitting) (ms : List Member) (v : View) → v ≡ claims_joined (founder_of c.limit (length seats + 1)) ms → AllZip (HasWorked limit r) (members_from c 1 seats) ms → IsAlone v
+alone c limit r seats ms v e h =
     let is : v ≡ record (founder_of c.limit (length seats + 1)) { drawn = drawn_of_all ms; others = claim_shares ms } = e ∙ claims_joined-is (founder_of c.limit (length seats + 1)) ms in
     subst IsAlone (sym is) (refl, each)
   where
     each : (w : ℕ) → w < length seats + 1 → 0 < times_named w (share 0 ∷ claim_shares ms)
     each zero low = times-own 0 (share 0) (claim_shares ms) refl
     each (suc w) low =
-        let a = numbered c r 1 seats ms h (suc w) (omega arith) (omega arith) in
+        let a = numbered c limit r 1 seats ms h (suc w) (omega arith) (omega arith) in
         let F : Share → ℕ = λ z. if z.number == suc w then 1 else 0 in
         let b : times_named (suc w) (share 0 ∷ claim_shares ms) ≡ F (share 0) + times_named (suc w) (claim_shares ms) = sum_by-cons F (share 0) (claim_shares ms) in omega arith
 
-pub round_from : (y : YardView) (c : Counter) (r : ℕ) (seats : List Sitting) (ms : List Member) (ss : List WorkerShift) (v : View) (word : ℕ)
-    → c.limit ≡ y.base.formula.variables → 0 < length seats → AreSeats y seats → AllZip (HasWorked r) (members_from c 1 seats) ms → shifts_of ms ≡ map Some ss
+pub round_from : (y : YardView) (c : Counter) (limit r : ℕ) (seats : List Sitting) (ms : List Member) (ss : List WorkerShift) (v : View) (word : ℕ)
+    → c.limit ≡ y.base.formula.variables → 0 < length seats → AreSeats y seats → AllZip (HasWorked limit r) (members_from c 1 seats) ms → shifts_of ms ≡ map Some ss
     → v ≡ claims_joined (founder_of c.limit (length seats + 1)) ms
     → ((x : ℕ) → times x v.drawn ≡ once_below x (min c.limit word)) → (0 < ends (all_shares v) → c.limit ≤ word)
-    → IsRound y r seats (seats_of ms) ss
-round_from y c r seats ms ss v word limit some are h e is drawn ended =
+    → IsRound y limit r seats (seats_of ms) ss
+round_from y c limit r seats ms ss v word bound some are h e is drawn ended =
     let view : v ≡ record (founder_of c.limit (length seats + 1)) { drawn = drawn_of_all ms; others = claim_shares ms } = is ∙ claims_joined-is (founder_of c.limit (length seats + 1)) ms in
     let d : (x : ℕ) → times x (drawn_of_all ms) ≡ once_below x (min c.limit word) = λ x. ap (λ (z : View). times x z.drawn) (sym view) ∙ drawn x in
-    let t = taken_are c r 1 seats ms ss h e in
-    let long = members_long c r 1 seats ms h in record {
+    let t = taken_are c limit r 1 seats ms ss h e in
+    let long = members_long c limit r 1 seats ms h in record {
       team = length-map ms ∙ long;
-      seats = seats_after c r y seats ms are h;
+      seats = seats_after c limit r y seats ms are h;
       count = sym (length-some ss) ∙ (sym (ap length e) ∙ (length-shifts ms ∙ long));
-      work = work_at c r seats ms ss h e;
+      work = work_at c limit r seats ms ss h e;
       taken_once = taken_few ss (drawn_of_all ms) (min c.limit word) t d;
       taken_all = λ x none low high.
           let F : Share → ℕ = λ z. if is_some z.end then 1 else 0 in
-          let some_end = some_ended c r 1 seats ms ss some h e none in
+          let some_end = some_ended c limit r 1 seats ms ss some h e none in
           let a : ends (share 0 ∷ claim_shares ms) ≡ F (share 0) + ends (claim_shares ms) = sum_by-cons F (share 0) (claim_shares ms) in
           let b : ends (all_shares v) ≡ ends (share 0 ∷ claim_shares ms) = ap (λ (z : View). ends (all_shares z)) view in
           let past = ended (omega arith) in

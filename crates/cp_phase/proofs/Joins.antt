@@ -1,5 +1,5 @@
 -- Seats and claim seats that take in others.
-use Rattle.std.proofs.Common.{◌≡◌, ◌≢◌, ℕ, zero, suc, ◌+◌, ◌<◌, ◌≤◌, Bool, true, false, ◌||◌, MatchBool, Option, is_some, List, [], ◌∷◌, ◌++◌, length, map, flat_map, slice_get, Some, None, All, Contains, refl, sym, ap, subst, ◌∙◌, ⊎_elim, arith, append-nil, append_assoc, length-append}
+use Rattle.std.proofs.Common.{◌≡◌, ◌≢◌, ℕ, zero, suc, ◌+◌, ◌<◌, Bool, true, false, ◌||◌, MatchBool, Option, is_some, List, [], ◌∷◌, ◌++◌, length, map, flat_map, slice_get, Some, None, All, Contains, refl, sym, ap, subst, ◌∙◌, ⊎_elim, arith, append-nil, append_assoc, length-append}
 use Rattle.std.proofs.lemmas.List.Elements.{All-cons, All-push, Contains-append_right}
 use Rattle.cp_logic.proofs.Members.{in_here, in_later, in_flat_map}
 use Rattle.cp_yard.specs.Views.{Base, SeatView, Share, all_shares, joined, child, times}
@@ -142,8 +142,9 @@ alone_is y u w seats n first are long e = subst IsAlone (sym e) (first.number, f
         times_in (suc k) s.0.view.own (u.own ∷ (u.others ++ shares_of_all seats)) (in_later s.0.view.own u.own (u.others ++ shares_of_all seats) (Contains-append_right u.others (shares_of_all seats) s.0.view.own (own_of_all seats k s.0 s.1)))
         (own ∙ (let m : k + 1 ≡ suc k = omega arith in m))
 
-pub own_posts : (y : YardView) (u w : SeatView) (seats : List Sitting) (made count : ℕ) (f : Base) (h : List Post) → AreSeats y seats → w ≡ record u { made = made; others = u.others ++ shares_of_all seats } → Account f h (all_shares w) count
-    → (i : ℕ) (s : Sitting) → slice_get seats i ≡ Some s → s.view.own.posts ≡ posts_of h (i + 1)
-own_posts y u w seats made count f h are e a i s at =
+-- each seat's share is one of those at the end, with the posts of its number
+pub own_shares : (y : YardView) (u w : SeatView) (seats : List Sitting) (made count : ℕ) (f : Base) (h : List Post) → AreSeats y seats → w ≡ record u { made = made; others = u.others ++ shares_of_all seats } → Account f h (all_shares w) count
+    → (i : ℕ) (s : Sitting) → slice_get seats i ≡ Some s → (s.view.own.posts ≡ posts_of h (i + 1)) × Contains (all_shares w) s.view.own
+own_shares y u w seats made count f h are e a i s at =
     let there : Contains (all_shares w) s.view.own = subst (λ (z : SeatView). Contains (all_shares z) s.view.own) (sym e) (in_later s.view.own u.own (u.others ++ shares_of_all seats) (Contains-append_right u.others (shares_of_all seats) s.view.own (own_of_all seats i s at))) in
-    (a.each_share s.view.own there).0 ∙ ap (posts_of h) (are i s at).own
+    ((a.each_share s.view.own there).0 ∙ ap (posts_of h) (are i s at).own, there)

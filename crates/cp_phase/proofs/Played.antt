@@ -1,18 +1,32 @@
 -- How what the seats and shifts are after some rounds goes on over one more, and what it comes to at the end.
-use Rattle.std.proofs.Common.{◌≡◌, ◌≢◌, ℕ, zero, suc, ◌+◌, ◌*◌, ◌-◌, ◌<◌, ◌≤◌, ◌⊎◌, Bool, true, false, eqb, ◌&&◌, List, [], ◌∷◌, ◌++◌, length, map, get_or, slice_get, Some, None, All, AllPairs, Contains, filter, refl, sym, ap, subst, ◌∙◌, inl, inr, ⊎_elim, arith, append-nil, length-append, eq-eqb, ne_eqb, eqb-true, suc-mul, zero-mul, mul-le-mul_right}
+use Rattle.std.proofs.Common.{◌≡◌, ◌≢◌, ℕ, suc, ◌+◌, ◌*◌, ◌-◌, ◌<◌, ◌≤◌, ◌⊎◌, List, [], ◌++◌, length, get_or, slice_get, Some, All, AllPairs, Contains, refl, sym, ap, subst, ◌∙◌, inl, inr, ⊎_elim, arith, append-nil, append_assoc, length-append, eq-eqb, ne_eqb, eqb-true, suc-mul, zero-mul, mul-le-mul_right}
 use Rattle.std.specs.Prelude.{◌==◌}
 use Rattle.std.specs.List.{enumerate_from}
 use Rattle.std.proofs.lemmas.Bool.{cases_lt, cases_eq}
 use Rattle.std.proofs.lemmas.List.Elements.{All-append, All-weaker, All-contains, filter-append}
 use Rattle.std.proofs.lemmas.List.Kept.{AllPairs-filter}
-use Rattle.cp_logic.specs.Journals.{Post, posts_of, posts_in_round}
+use Rattle.cp_logic.specs.Journals.{Post, posts_of}
 use Rattle.cp_logic.proofs.Members.{of_map, of_filter, in_filter}
+use Rattle.cp_yard.specs.Views.{Base, Note, Share}
 use Rattle.cp_yard.specs.Sitting.{Sitting, YardView}
 use Rattle.cp_worker.specs.declared.lists.WorkerShift.{WorkerShift}
 use Rattle.cp_worker.specs.Visits.{positions, IsPostOf}
-use Rattle.cp_phase.specs.Rounds.{of_round, shift_at, times_taken, NoneStopped, OneStopped, EndsAt, AreShifts}
-use Rattle.cp_phase.specs.Teams.{AreSeats, AreNew, IsWork, IsRound, in_round, AreDone, ArePlayed}
+use Rattle.cp_worker.specs.Shifts.{IsShift}
+use Rattle.cp_phase.specs.Rounds.{of_round, shift_at, times_taken, NoneStopped, OneStopped, IsShiftAmong, EndsAt, AreShifts}
+use Rattle.cp_phase.specs.Teams.{AreSeats, AreNew, IsRound, in_round, AreDone, ArePlayed}
 use Rattle.cp_phase.proofs.Lists.{some_same, none_some, at_front, at_back, within, some_at, row_front, row_back, row_past, filter-filter, filter-none, filter-all, AllPairs-append, before, ascending, in_enumerated}
+
+-- a shift among some notes is one among these with more behind them
+among_later : (f : Base) (limit number r : ℕ) (notes more now : List Note) (posts same : List (ℕ × Post)) (s : WorkerShift) → now ≡ notes ++ more → same ≡ posts
+    → IsShiftAmong f limit number r notes posts s → IsShiftAmong f limit number r now same s
+among_later f limit number r notes more now posts same s e p a = record {
+  before = a.before;
+  noted = a.noted;
+  later = a.later ++ more;
+  drawn = a.drawn;
+  part = e ∙ (ap (λ (ns : List Note). ns ++ more) a.part ∙ (append_assoc a.before (a.noted ++ a.later) more ∙ ap (λ (ns : List Note). a.before ++ ns) (append_assoc a.noted a.later more)));
+  shift = subst (λ (ps : List (ℕ × Post)). IsShift f number r limit a.noted ps a.drawn s) (sym p) a.shift;
+}
 
 -- ---- rows
 
@@ -44,9 +58,10 @@ module _ (n b : ℕ) (shifts ss : List WorkerShift) (long : length shifts ≡ b 
 
   -- ---- one worker
 
-  done_next : (i : ℕ) (old posted new : List (ℕ × Post)) (s : WorkerShift) → i < n → slice_get ss i ≡ Some s → AreDone n i b shifts old → new ≡ old ++ posted
-      → s.worker ≡ i + 1 → s.round ≡ b + 1 → s.commits.items ≡ positions posted → All (IsPostOf (i + 1) (b + 1)) posted → AreDone n i (b + 1) (shifts ++ ss) new
-  done_next i old posted new s low at d e worker round commits each = record {
+  done_next : (f : Base) (limit i : ℕ) (notes noted now : List Note) (old posted new : List (ℕ × Post)) (drawn : List ℕ) (s : WorkerShift) → i < n → slice_get ss i ≡ Some s
+      → AreDone f limit n i b shifts notes old → now ≡ notes ++ noted → new ≡ old ++ posted → IsShift f (i + 1) (b + 1) limit noted posted drawn s
+      → AreDone f limit n i (b + 1) (shifts ++ ss) now new
+  done_next f limit i notes noted now old posted new drawn s low at d g e shift = record {
     range = subst (All (λ q. (1 ≤ q.1.round) × (q.1.round ≤ b + 1))) (sym e)
         (All-append (λ (q : ℕ × Post). (1 ≤ q.1.round) × (q.1.round ≤ b + 1)) old posted
         (All-weaker (λ (q : ℕ × Post). (1 ≤ q.1.round) × (q.1.round ≤ b)) (λ (q : ℕ × Post). (1 ≤ q.1.round) × (q.1.round ≤ b + 1)) (λ q t. (t.0, let u = t.1 in omega arith)) old d.range)
@@ -55,12 +70,15 @@ module _ (n b : ℕ) (shifts ss : List WorkerShift) (long : length shifts ≡ b 
         (AllPairs-append (λ (p q : ℕ × Post). p.1.round ≤ q.1.round) old posted d.rising
         (λ j k x less inside. let u = (each j x (omega arith)).1 in let w = (each k x inside).1 in omega arith)
         (λ x m. λ k y less. let u = (All-contains (λ (q : ℕ × Post). (1 ≤ q.1.round) × (q.1.round ≤ b)) old x d.range m).1 in let w = (each k y less).1 in omega arith));
-    worker = λ r t at_t. ⊎_elim (λ f. d.worker r t f.1) (λ f. ap (λ (z : WorkerShift). z.worker) (is t f.1) ∙ worker) (placed i r t low at_t);
-    round = λ r t at_t. ⊎_elim (λ f. d.round r t f.1) (λ f. ap (λ (z : WorkerShift). z.round) (is t f.1) ∙ (round ∙ ap (λ (k : ℕ). k + 1) (sym f.0))) (placed i r t low at_t);
-    commits = λ r t at_t. ⊎_elim (λ f. d.commits r t f.1 ∙ ap positions (sym (earlier r f.0)))
-        (λ f. ap (λ (z : WorkerShift). z.commits.items) (is t f.1) ∙ (commits ∙ ap positions (sym (ap (λ (k : ℕ). in_round (k + 1) new) f.0 ∙ latest)))) (placed i r t low at_t);
+    each = λ r t at_t. ⊎_elim
+        (λ k. among_later f limit (i + 1) (r + 1) notes noted now (in_round (r + 1) old) (in_round (r + 1) new) t g (earlier r k.0) (d.each r t k.1))
+        (λ k. subst (λ (z : ℕ × WorkerShift). IsShiftAmong f limit (i + 1) (z.0 + 1) now (in_round (z.0 + 1) new) z.1) (λ j. (sym k.0 j, sym (is t k.1) j)) here)
+        (placed i r t low at_t);
   }
     where
+      each : All (IsPostOf (i + 1) (b + 1)) posted
+      each = shift.posts
+
       is : (t : WorkerShift) → slice_get ss i ≡ Some t → t ≡ s
       is t at_t = some_same t s (sym at_t ∙ at)
 
@@ -77,6 +95,16 @@ module _ (n b : ℕ) (shifts ss : List WorkerShift) (long : length shifts ≡ b 
           first : in_round (b + 1) old ≡ []
           first = filter-none (λ (q : ℕ × Post). q.1.round == b + 1) old (λ k x inside. let u = (d.range k x inside).1 in ne_eqb (get_or old k x).1.round (b + 1) (λ f. omega arith))
 
+      here : IsShiftAmong f limit (i + 1) (b + 1) now (in_round (b + 1) new) s
+      here = record {
+        before = notes;
+        noted = noted;
+        later = [];
+        drawn = drawn;
+        part = g ∙ ap (λ (ns : List Note). notes ++ ns) (sym (append-nil noted));
+        shift = subst (λ (ps : List (ℕ × Post)). IsShift f (i + 1) (b + 1) limit noted ps drawn s) (sym latest) shift;
+      }
+
   going_on : ((q : ℕ) → q < b → NoneStopped (of_round n q shifts)) → NoneStopped ss → (q : ℕ) → q < b + 1 → NoneStopped (of_round n q (shifts ++ ss))
   going_on going none q less = ⊎_elim
       (λ (low : q < b). subst NoneStopped (sym (front_row q low)) (going q low))
@@ -88,27 +116,25 @@ module _ (n b : ℕ) (shifts ss : List WorkerShift) (long : length shifts ≡ b 
 
 -- ---- the rounds
 
-pub played_start : (y : YardView) (n : ℕ) (seats : List Sitting) → length seats ≡ n → AreSeats y seats → AreNew seats → ArePlayed y n 0 seats []
-played_start y n seats team are new = record {
+pub played_start : (y : YardView) (limit n : ℕ) (seats : List Sitting) → length seats ≡ n → AreSeats y seats → AreNew seats → ArePlayed y limit n 0 seats []
+played_start y limit n seats team are new = record {
   team = team;
   are_seats = are;
   count = sym (zero-mul n);
   each = λ i v at. let e = new i v at in let l : length v.view.own.posts ≡ 0 = ap length e in record {
     range = λ k x low. absurd (omega arith);
     rising = λ j k x less low. absurd (omega arith);
-    worker = λ r s at_s. absurd (none_some s at_s);
-    round = λ r s at_s. absurd (none_some s at_s);
-    commits = λ r s at_s. absurd (none_some s at_s);
+    each = λ r s at_s. absurd (none_some s at_s);
   };
   taken_once = λ r x. subst (λ (l : List WorkerShift). times_taken x l ≤ 1) (sym (row_past (r * n) n [] (omega arith))) (omega arith);
   taken_all = λ r x low. absurd (omega arith);
 }
 
-module _ (y : YardView) (n b : ℕ) (seats news : List Sitting) (shifts ss : List WorkerShift) (p : ArePlayed y n b seats shifts) (o : IsRound y (b + 1) seats news ss) where
+module _ (y : YardView) (limit n b : ℕ) (seats news : List Sitting) (shifts ss : List WorkerShift) (p : ArePlayed y limit n b seats shifts) (o : IsRound y limit (b + 1) seats news ss) where
   few : length ss ≡ n
   few = o.count ∙ p.team
 
-  pub played_next : ArePlayed y n (b + 1) news (shifts ++ ss)
+  pub played_next : ArePlayed y limit n (b + 1) news (shifts ++ ss)
   played_next = record {
     team = o.team ∙ p.team;
     are_seats = o.seats;
@@ -116,9 +142,10 @@ module _ (y : YardView) (n b : ℕ) (seats news : List Sitting) (shifts ss : Lis
     each = λ i w at_w.
         let low = within news i w at_w in let t = o.team in let u = p.team in let m = few in
         let v = some_at seats i (omega arith) in let s = some_at ss i (omega arith) in
-        let k = o.work i v.0 w s.0 v.1 at_w s.1 in let number = (p.are_seats i v.0 v.1).number in
-        done_next n b shifts ss p.count few i v.0.view.own.posts k.posted w.view.own.posts s.0 (omega arith) s.1 (p.each i v.0 v.1) k.posts (k.worker ∙ number) k.round k.commits
-        (subst (λ (z : ℕ). All (IsPostOf z (b + 1)) k.posted) number k.each);
+        let k = o.work i v.0 w s.0 v.1 at_w s.1 in let is = p.are_seats i v.0 v.1 in
+        done_next n b shifts ss p.count few y.base limit i v.0.view.own.notes k.noted w.view.own.notes v.0.view.own.posts k.posted w.view.own.posts k.drawn s.0 (omega arith) s.1
+        (p.each i v.0 v.1) k.goes.notes k.goes.posts
+        (subst (λ (z : Base × ℕ). IsShift z.0 z.1 (b + 1) limit k.noted k.posted k.drawn s.0) (λ j. (is.base j, is.number j)) k.shift);
     taken_once = λ r x. ⊎_elim
         (λ (less : r < b). subst (λ (l : List WorkerShift). times_taken x l ≤ 1) (sym (front_row n b shifts ss p.count few r less)) (p.taken_once r x))
         (λ (ge : b ≤ r). ⊎_elim
@@ -147,19 +174,21 @@ ends_after n rounds b shifts e going = record { few = omega arith; earlier = λ 
 
 -- ---- the end
 
-pub shifts_are : (y : YardView) (n rounds b : ℕ) (seats : List Sitting) (shifts : List WorkerShift) (h : List Post)
-    → ArePlayed y n b seats shifts → EndsAt n rounds b shifts → ((i : ℕ) (v : Sitting) → slice_get seats i ≡ Some v → v.view.own.posts ≡ posts_of h (i + 1)) → All (λ p. p.worker < n + 1) h
-    → AreShifts y.base.formula.variables n rounds h shifts
-shifts_are y n rounds b seats shifts h p ends own workers = record {
+pub shifts_are : (y : YardView) (limit n rounds b : ℕ) (seats : List Sitting) (shifts : List WorkerShift) (h : List Post) (shares : List Share)
+    → ArePlayed y limit n b seats shifts → EndsAt n rounds b shifts
+    → ((i : ℕ) (v : Sitting) → slice_get seats i ≡ Some v → (v.view.own.posts ≡ posts_of h (i + 1)) × Contains shares v.view.own) → All (λ p. p.worker < n + 1) h
+    → AreShifts y.base n rounds limit h shares shifts
+shifts_are y limit n rounds b seats shifts h shares p ends own workers = record {
   begun = b;
   count = p.count;
   each = λ r w s low at.
       let v = some_at seats w (let t = p.team in omega arith) in let d = p.each w v.0 v.1 in record {
-        worker = d.worker r s at;
-        round = d.round r s at;
-        commits = d.commits r s at
-            ∙ (ap (λ l. positions (in_round (r + 1) l)) (own w v.0 v.1)
-            ∙ ap positions (filter-filter (λ (q : ℕ × Post). q.1.round == r + 1) (λ (q : ℕ × Post). q.1.worker == w + 1) (enumerate_from 0 h)));
+        share = v.0.view.own;
+        there = (own w v.0 v.1).1;
+        whose = (p.are_seats w v.0 v.1).own;
+        among = subst (λ (ps : List (ℕ × Post)). IsShiftAmong y.base limit (w + 1) (r + 1) v.0.view.own.notes ps s)
+            (ap (in_round (r + 1)) (own w v.0 v.1).0 ∙ filter-filter (λ (q : ℕ × Post). q.1.round == r + 1) (λ (q : ℕ × Post). q.1.worker == w + 1) (enumerate_from 0 h))
+            (d.each r s at);
       };
   ends = ends;
   taken_once = p.taken_once;
@@ -167,8 +196,8 @@ shifts_are y n rounds b seats shifts h p ends own workers = record {
   rising = λ r q w s t less low at_s at_t i j mi mj.
       let v = some_at seats w (let t = p.team in omega arith) in let d = p.each w v.0 v.1 in let posts = v.0.view.own.posts in
       let S : ℕ × Post → ℕ × Post → Type 0 = λ a c. a.0 < c.0 in
-      let up : AllPairs S posts = subst (AllPairs S) (sym (own w v.0 v.1)) (AllPairs-filter S (λ (z : ℕ × Post). z.1.worker == w + 1) (enumerate_from 0 h) (ascending 0 h)) in
-      let a = listed r s posts i (d.commits r s at_s) mi in let c = listed q t posts j (d.commits q t at_t) mj in
+      let up : AllPairs S posts = subst (AllPairs S) (sym (own w v.0 v.1).0) (AllPairs-filter S (λ (z : ℕ × Post). z.1.worker == w + 1) (enumerate_from 0 h) (ascending 0 h)) in
+      let a = listed r s posts i (d.each r s at_s).shift.commits mi in let c = listed q t posts j (d.each q t at_t).shift.commits mj in
       let e = a.2 in let f = c.2 in let k = a.3 in let l = c.3 in
       let g = before (λ (a c : ℕ × Post). a.1.round ≤ c.1.round) S posts d.rising up a.0 c.0 a.1 c.1 (λ same. let z = ap (λ (x : ℕ × Post). x.1.round) same in omega arith) (λ late. omega arith) in
       omega arith;
@@ -177,7 +206,7 @@ shifts_are y n rounds b seats shifts h p ends own workers = record {
       let i = post.worker - 1 in let same : post.worker ≡ i + 1 = omega arith in
       let v = some_at seats i (let t = p.team in omega arith) in let d = p.each i v.0 v.1 in
       let m = in_filter (λ (z : ℕ × Post). z.1.worker == i + 1) (enumerate_from 0 h) (0 + k, post) (in_enumerated 0 h k x low) (eq-eqb post.worker (i + 1) same) in
-      let g = All-contains (λ (z : ℕ × Post). (1 ≤ z.1.round) × (z.1.round ≤ b)) v.0.view.own.posts (0 + k, post) d.range (subst (λ l. Contains l (0 + k, post)) (sym (own i v.0 v.1)) m) in
+      let g = All-contains (λ (z : ℕ × Post). (1 ≤ z.1.round) × (z.1.round ≤ b)) v.0.view.own.posts (0 + k, post) d.range (subst (λ l. Contains l (0 + k, post)) (sym (own i v.0 v.1).0) m) in
       (omega arith, g.0, g.1);
 }
   where

@@ -1,12 +1,12 @@
 -- Rounds: shifts of all workers, round by round.
-use Rattle.std.specs.Prelude.{◌≡◌, ◌≢◌, ◌⊎◌, ℕ, ◌+◌, ◌*◌, ◌<◌, ◌≤◌, ◌==◌, Option, Some, None, List, [], take, drop, length, slice_get}
+use Rattle.std.specs.Prelude.{◌≡◌, ◌≢◌, ◌⊎◌, ℕ, ◌+◌, ◌*◌, ◌<◌, ◌≤◌, ◌==◌, Option, Some, None, List, [], ◌++◌, take, drop, length, slice_get}
 use Rattle.std.specs.List.{count_by, flat_map, All, Contains}
 use Rattle.cp_logic.specs.declared.settings.Stop.{Stop}
 use Rattle.cp_logic.specs.Journals.{Post, posts_in_round}
-use Rattle.cp_yard.specs.Views.{SeatView}
+use Rattle.cp_yard.specs.Views.{Base, Note, Share, SeatView}
 use Rattle.cp_hood.specs.Hoods.{IsIdle}
 use Rattle.cp_worker.specs.declared.lists.WorkerShift.{WorkerShift}
-use Rattle.cp_worker.specs.Visits.{positions}
+use Rattle.cp_worker.specs.Shifts.{IsShift}
 
 -- the shifts of the round r, counted from 0, of so many workers
 abbrev pub of_round : ℕ → ℕ → List WorkerShift → List WorkerShift
@@ -26,11 +26,21 @@ NoneStopped shifts = All (λ s. s.stopped ≡ None) shifts
 abbrev pub OneStopped : List WorkerShift → Type 0
 OneStopped shifts = (w : ℕ) × (s : WorkerShift) × (stop : Stop) × (slice_get shifts w ≡ Some s) × (s.stopped ≡ Some stop)
 
--- the shift is of the worker in the round, and lists just its posts there
-pub record IsShiftOf (h : List Post) (number in_round : ℕ) (s : WorkerShift) : Type 0 where
-  pub worker : s.worker ≡ number
-  pub round : s.round ≡ in_round
-  pub commits : s.commits.items ≡ positions (posts_in_round h number in_round)
+-- the shift is what these posts and some of these notes, which stand together, come to: those of the worker's visits in the round
+pub record IsShiftAmong (f : Base) (limit number in_round : ℕ) (notes : List Note) (posts : List (ℕ × Post)) (s : WorkerShift) : Type 0 where
+  pub before : List Note
+  pub noted : List Note
+  pub later : List Note
+  pub drawn : List ℕ
+  pub part : notes ≡ before ++ (noted ++ later)
+  pub shift : IsShift f number in_round limit noted posts drawn s
+
+-- the shift of the worker in the round: its posts are just the journal's there, and its notes stand in the share of the worker's number
+pub record IsShiftOf (f : Base) (limit : ℕ) (h : List Post) (shares : List Share) (number in_round : ℕ) (s : WorkerShift) : Type 0 where
+  pub share : Share
+  pub there : Contains shares share
+  pub whose : share.number ≡ number
+  pub among : IsShiftAmong f limit number in_round share.notes (posts_in_round h number in_round) s
 
 -- of the rounds asked for all began, unless a shift stopped, after whose round none began
 pub record EndsAt (workers rounds begun : ℕ) (shifts : List WorkerShift) : Type 0 where
@@ -38,15 +48,15 @@ pub record EndsAt (workers rounds begun : ℕ) (shifts : List WorkerShift) : Typ
   pub earlier : (r : ℕ) → r + 1 < begun → NoneStopped (of_round workers r shifts)
   pub last : (begun ≡ rounds) ⊎ ((r : ℕ) × (r + 1 ≡ begun) × OneStopped (of_round workers r shifts))
 
--- The shifts of so many workers in at most so many rounds over so many variables, after which the journal is h. They stand by round and then worker.
--- Where no shift of a round stopped, each variable was taken once in it, and else at most once.
-pub record AreShifts (variables workers rounds : ℕ) (h : List Post) (shifts : List WorkerShift) : Type 0 where
+-- The shifts of so many workers in at most so many rounds, with this limit of a neighbourhood, after which the journal is h, and the shares of the
+-- seats are these. They stand by round and then worker. Where no shift of a round stopped, each variable was taken once in it, and else at most once.
+pub record AreShifts (f : Base) (workers rounds limit : ℕ) (h : List Post) (shares : List Share) (shifts : List WorkerShift) : Type 0 where
   pub begun : ℕ
   pub count : length shifts ≡ begun * workers
-  pub each : (r w : ℕ) (s : WorkerShift) → w < workers → shift_at workers r w shifts ≡ Some s → IsShiftOf h (w + 1) (r + 1) s
+  pub each : (r w : ℕ) (s : WorkerShift) → w < workers → shift_at workers r w shifts ≡ Some s → IsShiftOf f limit h shares (w + 1) (r + 1) s
   pub ends : EndsAt workers rounds begun shifts
   pub taken_once : (r x : ℕ) → times_taken x (of_round workers r shifts) ≤ 1
-  pub taken_all : (r x : ℕ) → r < begun → NoneStopped (of_round workers r shifts) → 1 ≤ x → x ≤ variables → times_taken x (of_round workers r shifts) ≡ 1
+  pub taken_all : (r x : ℕ) → r < begun → NoneStopped (of_round workers r shifts) → 1 ≤ x → x ≤ f.formula.variables → times_taken x (of_round workers r shifts) ≡ 1
   -- what a worker posts in an earlier round comes before what it posts in a later one
   pub rising : (r q w : ℕ) (s t : WorkerShift) → r < q → w < workers → shift_at workers r w shifts ≡ Some s → shift_at workers q w shifts ≡ Some t
       → (i j : ℕ) → Contains s.commits.items i → Contains t.commits.items j → i < j

@@ -3,17 +3,16 @@ use Rattle.std.specs.Prelude.{◌≡◌, ℕ, ◌+◌, ◌*◌, ◌<◌, ◌≤�
 use Rattle.std.specs.List.{All, AllPairs, filter}
 use Rattle.std.specs.Option.{ForSome}
 use Rattle.cp_logic.specs.Journals.{Post}
-use Rattle.cp_yard.specs.Views.{SeatView, joined}
+use Rattle.cp_yard.specs.Views.{Base, Note, SeatView, joined}
 use Rattle.cp_yard.specs.Sitting.{Sitting, YardView}
 use Rattle.cp_hood.specs.Hoods.{IsIdle}
-use Rattle.cp_hood.specs.Seats.{Continues}
+use Rattle.cp_hood.specs.Seats.{GoesOn, Continues}
 use Rattle.cp_claim.specs.Views.{Counter, share, DrawsOnly, founder}
 use Rattle.cp_claim.specs.Views as claims
 use Rattle.cp_worker.specs.declared.lists.WorkerShift.{WorkerShift}
-use Rattle.cp_worker.specs.Visits.{positions, IsPostOf}
-use Rattle.cp_worker.specs.Shifts.{candidates_of}
+use Rattle.cp_worker.specs.Shifts.{candidates_of, IsShift}
 use Rattle.cp_phase.specs.declared.team.Member.{Member}
-use Rattle.cp_phase.specs.Rounds.{of_round, shift_at, times_taken, NoneStopped}
+use Rattle.cp_phase.specs.Rounds.{of_round, shift_at, times_taken, NoneStopped, IsShiftAmong}
 
 -- ---- seats
 
@@ -68,14 +67,13 @@ pub record IsReady (y : YardView) (c : Counter) (m : Member) : Type 0 where
   pub counter : m.claim.counter ≡ c
   pub idle : IsIdle m.seat.view
 
--- the shift is that of the seat in the round, and lists its new posts
-pub record IsWork (in_round : ℕ) (v w : SeatView) (s : WorkerShift) : Type 0 where
+-- the shift is what the seat did in the round, with this limit of a neighbourhood
+pub record IsWork (limit in_round : ℕ) (v w : SeatView) (s : WorkerShift) : Type 0 where
+  pub noted : List Note
   pub posted : List (ℕ × Post)
-  pub posts : w.own.posts ≡ v.own.posts ++ posted
-  pub worker : s.worker ≡ v.number
-  pub round : s.round ≡ in_round
-  pub commits : s.commits.items ≡ positions posted
-  pub each : All (IsPostOf v.number in_round) posted
+  pub drawn : List ℕ
+  pub goes : GoesOn v w noted posted
+  pub shift : IsShift v.base v.number in_round limit noted posted drawn s
 
 -- the shift took what the claim seat drew, and if it didn't stop the claim seat has ended
 pub record IsTaken (v w : claims.View) (s : WorkerShift) : Type 0 where
@@ -85,21 +83,21 @@ pub record IsTaken (v w : claims.View) (s : WorkerShift) : Type 0 where
   pub ended : s.stopped ≡ None → (word : ℕ) × (w.mine.end ≡ Some word)
 
 -- the member has worked in the round; it has no shift where memory ran out
-pub record HasWorked (in_round : ℕ) (old new : Member) : Type 0 where
+pub record HasWorked (limit in_round : ℕ) (old new : Member) : Type 0 where
   pub table : new.seat.table ≡ old.seat.table
   pub counter : new.claim.counter ≡ old.claim.counter
   pub idle : IsIdle new.seat.view
   pub seat : Continues old.seat.view new.seat.view
   pub claim : DrawsOnly old.claim.view new.claim.view
-  pub work : ForSome new.shift (IsWork in_round old.seat.view new.seat.view)
+  pub work : ForSome new.shift (IsWork limit in_round old.seat.view new.seat.view)
   pub taken : ForSome new.shift (IsTaken old.claim.view new.claim.view)
 
 -- the seats before and after a round, with its shifts
-pub record IsRound (y : YardView) (in_round : ℕ) (olds news : List Sitting) (shifts : List WorkerShift) : Type 0 where
+pub record IsRound (y : YardView) (limit in_round : ℕ) (olds news : List Sitting) (shifts : List WorkerShift) : Type 0 where
   pub team : length news ≡ length olds
   pub seats : AreSeats y news
   pub count : length shifts ≡ length olds
-  pub work : (i : ℕ) (v w : Sitting) (s : WorkerShift) → slice_get olds i ≡ Some v → slice_get news i ≡ Some w → slice_get shifts i ≡ Some s → IsWork in_round v.view w.view s
+  pub work : (i : ℕ) (v w : Sitting) (s : WorkerShift) → slice_get olds i ≡ Some v → slice_get news i ≡ Some w → slice_get shifts i ≡ Some s → IsWork limit in_round v.view w.view s
   pub taken_once : (x : ℕ) → times_taken x shifts ≤ 1
   pub taken_all : (x : ℕ) → NoneStopped shifts → 1 ≤ x → x ≤ y.base.formula.variables → times_taken x shifts ≡ 1
 
@@ -109,19 +107,18 @@ pub record IsRound (y : YardView) (in_round : ℕ) (olds news : List Sitting) (s
 abbrev pub in_round : ℕ → List (ℕ × Post) → List (ℕ × Post)
 in_round r posts = filter (λ q. q.1.round == r) posts
 
--- the posts of worker i, counted from 0, in so many rounds of so many workers: their rounds don't fall, and its shifts list those of each round
-pub record AreDone (workers i begun : ℕ) (shifts : List WorkerShift) (posts : List (ℕ × Post)) : Type 0 where
+-- the posts and notes of worker i, counted from 0, in so many rounds of so many workers: the posts' rounds don't fall, and its shifts are
+-- what those of each round, and some of the notes, come to
+pub record AreDone (f : Base) (limit workers i begun : ℕ) (shifts : List WorkerShift) (notes : List Note) (posts : List (ℕ × Post)) : Type 0 where
   pub range : All (λ q. (1 ≤ q.1.round) × (q.1.round ≤ begun)) posts
   pub rising : AllPairs (λ p q. p.1.round ≤ q.1.round) posts
-  pub worker : (r : ℕ) (s : WorkerShift) → shift_at workers r i shifts ≡ Some s → s.worker ≡ i + 1
-  pub round : (r : ℕ) (s : WorkerShift) → shift_at workers r i shifts ≡ Some s → s.round ≡ r + 1
-  pub commits : (r : ℕ) (s : WorkerShift) → shift_at workers r i shifts ≡ Some s → s.commits.items ≡ positions (in_round (r + 1) posts)
+  pub each : (r : ℕ) (s : WorkerShift) → shift_at workers r i shifts ≡ Some s → IsShiftAmong f limit (i + 1) (r + 1) notes (in_round (r + 1) posts) s
 
 -- the seats of so many workers after so many rounds, and the shifts of these
-pub record ArePlayed (y : YardView) (workers begun : ℕ) (seats : List Sitting) (shifts : List WorkerShift) : Type 0 where
+pub record ArePlayed (y : YardView) (limit workers begun : ℕ) (seats : List Sitting) (shifts : List WorkerShift) : Type 0 where
   pub team : length seats ≡ workers
   pub are_seats : AreSeats y seats
   pub count : length shifts ≡ begun * workers
-  pub each : (i : ℕ) (v : Sitting) → slice_get seats i ≡ Some v → AreDone workers i begun shifts v.view.own.posts
+  pub each : (i : ℕ) (v : Sitting) → slice_get seats i ≡ Some v → AreDone y.base limit workers i begun shifts v.view.own.notes v.view.own.posts
   pub taken_once : (r x : ℕ) → times_taken x (of_round workers r shifts) ≤ 1
   pub taken_all : (r x : ℕ) → r < begun → NoneStopped (of_round workers r shifts) → 1 ≤ x → x ≤ y.base.formula.variables → times_taken x (of_round workers r shifts) ≡ 1

@@ -43,7 +43,7 @@ fn play_all<R: Threads + Sync, G: Gate + Sync>(
     requires some { 0 < length seats.items }
     requires few { length seats.items ≤ 64 }
     requires none { shifts.old.items ≡ [] }
-    ensures { IfOk result (λ v. (begun : ℕ) × ArePlayed yard.now (length seats.items) begun v.items shifts.new.items × EndsAt (length seats.items) opts.now.rounds begun shifts.new.items) }
+    ensures { IfOk result (λ v. (begun : ℕ) × ArePlayed yard.now opts.now.hood (length seats.items) begun v.items shifts.new.items × EndsAt (length seats.items) opts.now.rounds begun shifts.new.items) }
 {
     let mut seats = seats;
     for r in 0..opts.rounds {
@@ -83,7 +83,7 @@ pub fn rounds<R: Threads + Sync, G: Gate + Sync>(
     ensures account { IfOk result (λ p. Account yard.base p.ground.book.posts (all_shares p.kept) (opts.now.workers + 1)) }
     ensures first { IfOk result (λ p. p.kept.own ≡ seat.view.own) }
 
-    ensures shifts { IfOk result (λ p. AreShifts yard.base.formula.variables opts.now.workers opts.now.rounds p.ground.book.posts p.shifts.items) }
+    ensures shifts { IfOk result (λ p. AreShifts yard.base opts.now.workers opts.now.rounds opts.now.hood p.ground.book.posts (all_shares p.kept) p.shifts.items) }
 {
     let mut seat = seat;
     let mut shifts = Shifts::new(alloc);

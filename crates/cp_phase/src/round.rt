@@ -28,7 +28,7 @@ fn work_all<R: Threads + Sync, G: Gate + Sync>(
     requires rules { task.now.opts.rules ≡ yard.now.base.rules }
     requires limit { task.now.claims.limit ≡ yard.now.base.formula.variables }
     ensures count { length members.new ≡ length members.old }
-    ensures worked { (i : ℕ) (d : Member) → i < length members.old → HasWorked task.now.round (slice_index_or members.old i d) (slice_index_or members.new i d) }
+    ensures worked { (i : ℕ) (d : Member) → i < length members.old → HasWorked task.now.opts.hood task.now.round (slice_index_or members.old i d) (slice_index_or members.new i d) }
 {
     thread::for_each_mut(
         rt,
@@ -36,7 +36,7 @@ fn work_all<R: Threads + Sync, G: Gate + Sync>(
         members.len(),
         &|_, member: &mut Member|
             requires { IsReady yard.now task.now.claims member.old × (task.now.opts.rules ≡ yard.now.base.rules) × (task.now.claims.limit ≡ yard.now.base.formula.variables) }
-            ensures { HasWorked task.entry.now.round member.entry.now member.exit.now }
+            ensures { HasWorked task.entry.now.opts.hood task.entry.now.round member.entry.now member.exit.now }
         {
             member.work(yard, task, gate);
         },
@@ -94,7 +94,7 @@ pub(crate) fn play_round<R: Threads + Sync, G: Gate + Sync>(
     requires seats { AreSeats yard.now seats.items }
     requires some { 0 < length seats.items }
     requires few { length seats.items ≤ 64 }
-    ensures { IfOk result (λ r. (ss : List WorkerShift) × (shifts.new.items ≡ shifts.old.items ++ ss) × IsRound yard.now round seats.items r.0.items ss × MatchBool r.1 (OneStopped ss) (NoneStopped ss)) }
+    ensures { IfOk result (λ r. (ss : List WorkerShift) × (shifts.new.items ≡ shifts.old.items ++ ss) × IsRound yard.now opts.now.hood round seats.items r.0.items ss × MatchBool r.1 (OneStopped ss) (NoneStopped ss)) }
 {
     let (claims, mut claim) = Claims::new(alloc, u64::from(yard.vars()))?;
     let mut after = Vec::with_capacity(alloc, seats.len())?;

@@ -34,7 +34,7 @@ impl Member {
         requires ready { IsReady yard.now task.now.claims self.old }
         requires rules { task.now.opts.rules ≡ yard.now.base.rules }
         requires limit { task.now.claims.limit ≡ yard.now.base.formula.variables }
-        ensures { HasWorked task.now.round self.old self.new }
+        ensures { HasWorked task.now.opts.hood task.now.round self.old self.new }
     {
         let done = shift(
             task.alloc,

@@ -114,7 +114,7 @@ module _ (o : Simplify) (old bound p : Ports) (answer : Result Held Refusal) (b 
 -- From the words to the texts: the words give options, the roles are bound, Cnf reads as a formula, and this is the result.
 module _ (workers : Simplify → ℕ) (words : List (List ℕ)) (old p new : Ports) (o : Simplify) (taken : simplify_options words ≡ Ok o)
     (f : Held) (begun : Begins o (Ok f) old p) (sizes : Sizes) (same_sizes : sizes ≡ sizes_of f.formula)
-    (s : Simplified) (is : IsResult (workers o) o.opts.rounds f.formula o.opts.rules s) where
+    (s : Simplified) (is : IsResult (workers o) o.opts.rounds o.opts.hood f.formula o.opts.rules s) where
   abbrev pub posts : List Post
   posts = s.swept.journal.items
 

@@ -41,21 +41,21 @@ module _ (f : Formula) (rules : Rules) (b g : BookView) (base : Base) (made : b 
   rules-are : g.rules ≡ rules
   rules-are = ap (λ (x : Base). x.rules) (same ∙ base-is)
 
-  module _ (workers rounds : ℕ) (some : 1 ≤ workers) (more : 1 ≤ rounds) (s : Swept) (shifts : Roomy WorkerShift) (k v : SeatView)
+  module _ (workers rounds limit : ℕ) (some : 1 ≤ workers) (more : 1 ≤ rounds) (s : Swept) (shifts : Roomy WorkerShift) (k v : SeatView)
       (swept : IsSweptAfter g.first g.rules g.posts s.journal.items s.formula.formula s.stopped) (pairs : pairs_of s.stack.pairs ≡ (folded g.first s.journal.items).pairs)
       (variables : s.stack.vars ≡ g.first.variables) (unspent : IsUnspent g.first g.rules s.stopped)
-      (ran : AreShifts base.formula.variables workers rounds g.posts shifts.items) (account : Account base g.posts (all_shares k) (workers + 1)) (own : k.own ≡ v.own) (first : v ≡ founder b) where
+      (ran : AreShifts base workers rounds limit g.posts (all_shares k) shifts.items) (account : Account base g.posts (all_shares k) (workers + 1)) (own : k.own ≡ v.own) (first : v ≡ founder b) where
     own-is : k.own ≡ record { number = 0; posts = []; notes = [] }
     own-is = own ∙ ap (λ (x : SeatView). x.own) (first ∙ ap founder made)
 
-    team : IsTeamwork workers rounds f rules g.posts shifts.items (Some k)
+    team : IsTeamwork workers rounds limit f rules g.posts shifts.items (Some k)
     team = record {
       alone = not-none workers rounds _ some more;
-      team = λ _ _. subst (λ (x : Base). AreShifts x.formula.variables workers rounds g.posts shifts.items) base-is ran;
+      team = λ _ _. (k, refl, subst (λ (x : Base). AreShifts x workers rounds limit g.posts (all_shares k) shifts.items) base-is ran);
       account = λ _ _. (k, refl, subst (λ (x : Base). Account x g.posts (all_shares k) (workers + 1)) base-is account, ap (λ (x : Share). x.posts) own-is, ap (λ (x : Share). x.notes) own-is);
     }
 
-    pub result-of : IsResult workers rounds f rules (record { swept = s; shifts = shifts; kept = Some k })
+    pub result-of : IsResult workers rounds limit f rules (record { swept = s; shifts = shifts; kept = Some k })
     unfolding team
     result-of = record {
       worked = g.posts;

@@ -28,11 +28,11 @@ abbrev pub Begins : Simplify → Result Held Refusal → Ports → Ports → Typ
 Begins o (Err (OpenFault role)) old new = FailedToBind (simplify_bindings o) role old new
 Begins o result old new = (bound : Ports) × BoundSoFar (simplify_bindings o) old bound × AtRole Cnf (ReadsFormula result) bound new
 
--- the result of so many workers in so many rounds, and of the sweep behind them
-pub record IsResult (workers rounds : ℕ) (f : Formula) (rules : Rules) (s : Simplified) : Type 0 where
+-- the result of so many workers in so many rounds, with this limit of a neighbourhood, and of the sweep behind them
+pub record IsResult (workers rounds limit : ℕ) (f : Formula) (rules : Rules) (s : Simplified) : Type 0 where
   pub worked : List Post
   pub swept : IsSweptAfter f rules worked s.swept.journal.items s.swept.formula.formula s.swept.stopped
-  pub team : IsTeamwork workers rounds f rules worked s.shifts.items s.kept
+  pub team : IsTeamwork workers rounds limit f rules worked s.shifts.items s.kept
   pub pairs : pairs_of s.swept.stack.pairs ≡ (folded f s.swept.journal.items).pairs
   pub variables : s.swept.stack.vars ≡ f.variables
   pub unspent : IsUnspent f rules s.swept.stopped

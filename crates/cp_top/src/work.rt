@@ -29,7 +29,7 @@ pub(crate) fn simplify_alone(
     opts: &Opts,
 ) -> Result<Simplified, AllocError>
     requires numbers { formula.formula.next ≤ number_limit }
-    ensures { IfOk result (IsResult 0 opts.now.rounds formula.formula opts.now.rules) }
+    ensures { IfOk result (IsResult 0 opts.now.rounds opts.now.hood formula.formula opts.now.rules) }
 {
     Ok(Simplified {
         swept: simplify(alloc, formula, &opts.rules)?,
@@ -48,7 +48,7 @@ pub(crate) fn simplify_by<R: Threads + Sync, G: Gate + Sync>(
 ) -> Result<Simplified, AllocError>
     requires numbers { formula.formula.next ≤ number_limit }
     requires workers { opts.now.workers ≤ 64 }
-    ensures { IfOk result (IsResult opts.now.workers opts.now.rounds formula.formula opts.now.rules) }
+    ensures { IfOk result (IsResult opts.now.workers opts.now.rounds opts.now.hood formula.formula opts.now.rules) }
 {
     if opts.workers == 0 || opts.rounds == 0 {
         return simplify_alone(alloc, formula, opts);
@@ -66,7 +66,7 @@ fn simplify_with_workers<R: Threads + Sync, G: Gate + Sync>(
     requires numbers { formula.formula.next ≤ number_limit }
     requires workers { (1 ≤ opts.now.workers) × (opts.now.workers ≤ 64) }
     requires rounds { 1 ≤ opts.now.rounds }
-    ensures { IfOk result (IsResult opts.now.workers opts.now.rounds formula.formula opts.now.rules) }
+    ensures { IfOk result (IsResult opts.now.workers opts.now.rounds opts.now.hood formula.formula opts.now.rules) }
 {
     let cells = Cells::of_formula(alloc, &formula)?;
     let book = Book::new(alloc, formula, opts.rules)?;

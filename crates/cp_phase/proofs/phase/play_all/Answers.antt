@@ -1,4 +1,4 @@
-use Rattle.std.proofs.Common.{◌≡◌, ℕ, ◌+◌, length, MatchBool, refl, sym, subst, arith}
+use Rattle.std.proofs.Common.{◌+◌, length, MatchBool, refl, sym, subst, arith}
 use Rattle.cp_phase.specs.Rounds.{of_round, NoneStopped, OneStopped, EndsAt}
 use Rattle.cp_phase.specs.Teams.{ArePlayed}
 use Rattle.cp_phase.proofs.Played.{played_start, played_next, going_next, ends_here, ends_after}
@@ -6,25 +6,25 @@ use Rattle.cp_phase.proofs.phase.play_all.Goals as goal
 
 pub loop-r-init : goal.loop-r-init
 loop-r-init g c = record {
-  played = subst (ArePlayed c.args.yard.now (length c.args.seats.items) 0 c.args.seats.items) (sym c.requires.none) (played_start c.args.yard.now (length c.args.seats.items) c.args.seats.items refl c.requires.seats c.requires.new);
+  played = subst (ArePlayed c.args.yard.now c.args.opts.now.hood (length c.args.seats.items) 0 c.args.seats.items) (sym c.requires.none) (played_start c.args.yard.now c.args.opts.now.hood (length c.args.seats.items) c.args.seats.items refl c.requires.seats c.requires.new);
   going = λ q low. absurd (omega arith);
 }
 
 pub loop-r-preserved : goal.loop-r-preserved
 loop-r-preserved g c = let n = length c.args.seats.items in let i = c.loop-r.invariant in let q = c.in_ok-after.ensures in
     let none : NoneStopped q.0 = subst (λ b. MatchBool b (OneStopped q.0) (NoneStopped q.0)) c.if-stopped.false q.3 in record {
-      played = subst (ArePlayed c.args.yard.now n (c.loop-r.r + 1) c.in_ok-after.after.items) (sym q.1) (played_next c.args.yard.now n c.loop-r.r c.loop-r.seats.items c.in_ok-after.after.items c.loop-r.shifts.items q.0 i.played q.2);
+      played = subst (ArePlayed c.args.yard.now c.args.opts.now.hood n (c.loop-r.r + 1) c.in_ok-after.after.items) (sym q.1) (played_next c.args.yard.now c.args.opts.now.hood n c.loop-r.r c.loop-r.seats.items c.in_ok-after.after.items c.loop-r.shifts.items q.0 i.played q.2);
       going = λ k low. subst (λ l. NoneStopped (of_round n k l)) (sym q.1)
-          (going_next c.args.yard.now n c.loop-r.r c.loop-r.seats.items c.in_ok-after.after.items c.loop-r.shifts.items q.0 i.played q.2 i.going none k low);
+          (going_next c.args.yard.now c.args.opts.now.hood n c.loop-r.r c.loop-r.seats.items c.in_ok-after.after.items c.loop-r.shifts.items q.0 i.played q.2 i.going none k low);
     }
 
 pub returns-then-stopped : goal.returns-then-stopped
 returns-then-stopped g c = let n = length c.args.seats.items in let i = c.loop-r.invariant in let q = c.in_ok-after.ensures in
     let one : OneStopped q.0 = subst (λ b. MatchBool b (OneStopped q.0) (NoneStopped q.0)) c.if-stopped.true q.3 in (
       c.loop-r.r + 1,
-      subst (ArePlayed c.args.yard.now n (c.loop-r.r + 1) c.in_ok-after.after.items) (sym q.1) (played_next c.args.yard.now n c.loop-r.r c.loop-r.seats.items c.in_ok-after.after.items c.loop-r.shifts.items q.0 i.played q.2),
+      subst (ArePlayed c.args.yard.now c.args.opts.now.hood n (c.loop-r.r + 1) c.in_ok-after.after.items) (sym q.1) (played_next c.args.yard.now c.args.opts.now.hood n c.loop-r.r c.loop-r.seats.items c.in_ok-after.after.items c.loop-r.shifts.items q.0 i.played q.2),
       subst (EndsAt n c.args.opts.now.rounds (c.loop-r.r + 1)) (sym q.1)
-          (ends_here c.args.yard.now n c.loop-r.r c.loop-r.seats.items c.in_ok-after.after.items c.loop-r.shifts.items q.0 i.played q.2 c.args.opts.now.rounds c.loop-r-test.true i.going one),
+          (ends_here c.args.yard.now c.args.opts.now.hood n c.loop-r.r c.loop-r.seats.items c.in_ok-after.after.items c.loop-r.shifts.items q.0 i.played q.2 c.args.opts.now.rounds c.loop-r-test.true i.going one),
     )
 
 pub returns : goal.returns

@@ -5,6 +5,6 @@ use Rattle.cp_phase.proofs.phase.play_all.Given as goal
 
 abbrev pub invariant-loop-r : goal.invariant-loop-r
 invariant-loop-r g l = record {
-  played : ArePlayed l.fn.yard (length l.fn.seats.items) l.r l.seats.items l.shifts.items;
+  played : ArePlayed l.fn.yard l.opts.hood (length l.fn.seats.items) l.r l.seats.items l.shifts.items;
   going : (q : ℕ) → q < l.r → NoneStopped (of_round (length l.fn.seats.items) q l.shifts.items);
 }

@@ -1,4 +1,4 @@
-use Rattle.std.proofs.Common.{◌≡◌, ◌+◌, length, rules, ap, ◌∙◌, arith, length-append, [], ◌∷◌}
+use Rattle.std.proofs.Common.{◌≡◌, ◌+◌, length, ap, ◌∙◌, arith, length-append, [], ◌∷◌}
 use Rattle.cp_yard.specs.Views.{parent}
 use Rattle.cp_phase.specs.Teams.{IsSeatOf}
 use Rattle.cp_phase.proofs.Joins.{seats_next, new_next, child_is, child_new}
