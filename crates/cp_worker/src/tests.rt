@@ -181,27 +181,3 @@ fn shifts(rt: HostRuntime) -> Result<(), Fail> {
     }
     Ok(())
 }
-
-#[test]
-fn shifts_beside_another_seat(rt: HostRuntime) -> Result<(), Fail> {
-    let opts = opts_of(0, 512);
-    let (yard, mut seat, mut other) = yard_of(rt.alloc(), &[&[1, 2], &[-1, 3]], 1, &opts)?;
-    let Ok(book) = yard.try_turn(&mut other) else {
-        panic!(rt; "the turn is free");
-    };
-    let listed = work(rt.alloc(), &yard, &mut seat, &opts)?;
-    assert_eq!(rt;
-        listed.as_str(),
-        "1, 1: [1, 2, 3] [] [] [LateAt { at: 1, by: 2 }, LateAt { at: 2, by: 2 }, LateAt { at: 3, by: 2 }] [] None"
-    );
-    yard.end_turn(&mut other, book);
-    let Ok(_three) = yard.try_lock(&mut other, 3) else {
-        panic!(rt; "the lock of 3 is free");
-    };
-    let listed = work(rt.alloc(), &yard, &mut seat, &opts)?;
-    assert_eq!(rt;
-        listed.as_str(),
-        "1, 1: [1, 2, 3] [0] [BusyAt { at: 1, var: 3, by: 2 }, BusyAt { at: 3, var: 3, by: 2 }] [] [] None"
-    );
-    Ok(())
-}
