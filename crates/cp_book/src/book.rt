@@ -95,6 +95,7 @@ impl Book {
         requires { IsFalse (is_look (entry_of entry.now)) }
         ensures same { self.new ≡ record self.old { prepared = self.new.prepared } }
         ensures ok { OnOk result (self.new.prepared ≡ Some (entry_of entry.now)) }
+        ensures err { OnErr result (self.new.prepared ≡ None) }
     {
         self.prepared = None;
         self.journal.reserve(1)?;

@@ -1,5 +1,5 @@
 //! What an entry does to the current clauses and to the stack.
-ghost use Rattle.std.specs.Prelude.{◌≡◌, ◌+◌, ◌^◌, ◌≤◌, map, length, if◌then◌else◌, IfOk, IfSome};
+ghost use Rattle.std.specs.Prelude.{◌≡◌, ◌+◌, ◌^◌, ◌≤◌, map, length, if◌then◌else◌, IfOk, IfSome, IfNone};
 ghost use Rattle.std.specs.List.{All};
 ghost use Rattle.cp_logic.specs.Literals.{positive, negative};
 ghost use Rattle.cp_logic.specs.Formulas.{IsWithin, clauses_of};
@@ -40,7 +40,8 @@ fn seconds_of(alloc: Global, list: &NamedList) -> Result<Vec<Clause>, AllocError
 
 /// The number of clauses that the entry weakens, unless no `usize` has it.
 pub(crate) fn weakened_count(entry: &Entry) -> Option<usize>
-    ensures { IfSome result (λ n. n ≡ length (weakened (entry_of entry.now))) }
+    ensures count { IfSome result (λ n. n ≡ length (weakened (entry_of entry.now))) }
+    ensures none { IfNone result (2 ^ 64 ≤ length (weakened (entry_of entry.now))) }
 {
     match entry {
         Entry::Block { .. } => Some(1),
