@@ -13,7 +13,7 @@
 //! an entry of its own. Nothing is marked, since the literals of clauses ascend, and one pass over two clauses tells whether their
 //! resolvent is a tautology. The clauses of each sign are listed once, so that no clause is passed over again for each other one.
 ghost use Rattle.std.specs.Prelude.{◌≡◌, ◌≤◌, IfOk, if◌then◌else◌};
-ghost use Rattle.std.specs.List.{list_all, list_any};
+ghost use Rattle.std.specs.List.{list_all};
 ghost use Rattle.std.specs.Option.{option_map};
 ghost use Rattle.cp_logic.specs.Literals.{is_positive};
 ghost use Rattle.cp_logic.specs.Clauses.{is_tautology, resolvent};
@@ -21,9 +21,8 @@ ghost use Rattle.cp_logic.specs.Legality.{blocks, first_of_kind};
 ghost use Rattle.cp_logic.specs.Views.{entry_of};
 ghost use Rattle.cp_blocked.specs.Finds.{literal_at};
 
-use crate::sides::{Lent, gathered};
 use cp_logic::{Clause, Entry, Lit, Named};
-use cp_occ::Cell;
+use cp_occ::{Cell, Lent};
 use std::alloc::{AllocError, Global};
 
 /// The clause of the least number that is blocked on its literal of the cell's variable, with that literal, or `None` where there is
@@ -34,11 +33,11 @@ pub fn first_blocked(alloc: Global, cell: &Cell) -> Result<Option<Entry>, AllocE
     ensures { IfOk result (λ o. option_map entry_of o ≡ first_of_kind cell.now.variable cell.now.clauses (blocks cell.now.clauses)) }
 {
     let var = cell.var();
-    if has_tautology(cell) {
+    if cell.has_tautology() {
         return Ok(None);
     }
-    let pos = gathered(alloc, cell.pos())?;
-    let neg = gathered(alloc, cell.neg())?;
+    let pos = cell.pos().gathered(alloc)?;
+    let neg = cell.neg().gathered(alloc)?;
     for (number, clause) in cell.iter() {
         let lit = literal_at(clause, var);
         let others = clauses_against(&pos, &neg, lit);
@@ -49,18 +48,6 @@ pub fn first_blocked(alloc: Global, cell: &Cell) -> Result<Option<Entry>, AllocE
         }
     }
     Ok(None)
-}
-
-// Whether a clause of the cell is a tautology.
-fn has_tautology(cell: &Cell) -> bool
-    ensures { result ≡ list_any (λ c. is_tautology c.clause) cell.now.clauses }
-{
-    for (_, clause) in cell.iter() {
-        if clause.is_tautology() {
-            return true;
-        }
-    }
-    false
 }
 
 // The literal of the variable in a clause that has the variable in one sign.

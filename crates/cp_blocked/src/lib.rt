@@ -7,7 +7,6 @@
 
 mod blocking;
 pub mod laws;
-mod sides;
 #[cfg(test)]
 mod tests;
 

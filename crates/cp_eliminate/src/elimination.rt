@@ -18,16 +18,14 @@
 //!
 //! A tautology among the variable's clauses would give resolvents that still have the variable, so there must be none.
 ghost use Rattle.std.specs.Prelude.{◌≡◌, ◌≤◌, ◌^◌, IfOk};
-ghost use Rattle.std.specs.List.{list_any};
 ghost use Rattle.std.specs.Option.{option_map};
-ghost use Rattle.cp_logic.specs.Clauses.{is_tautology};
 ghost use Rattle.cp_logic.specs.Views.{entry_of};
 ghost use Rattle.cp_eliminate.specs.Eliminating.{elimination_within, is_within};
 
-use crate::lent::{Lent, gathered, seconds};
+use crate::lent::seconds;
 use crate::resolvents::{are_at_most, numbered_resolvents};
 use cp_logic::Entry;
-use cp_occ::Cell;
+use cp_occ::{Cell, Lent};
 use std::alloc::{AllocError, Global};
 
 /// The elimination of the cell's variable, its resolvents numbered from `next` on; or `None` where the cell has no clause or a
@@ -44,11 +42,11 @@ pub fn try_eliminate(
     ensures { IfOk result (λ o. option_map entry_of o ≡ elimination_within cell.now.clauses bound next cell.now.variable) }
 {
     let var = cell.var();
-    if has_tautology(cell) {
+    if cell.has_tautology() {
         return Ok(None);
     }
-    let pos = gathered(alloc, cell.pos())?;
-    let neg = gathered(alloc, cell.neg())?;
+    let pos = cell.pos().gathered(alloc)?;
+    let neg = cell.neg().gathered(alloc)?;
     if !is_within(&pos, &neg, var, bound) {
         return Ok(None);
     }
@@ -56,18 +54,6 @@ pub fn try_eliminate(
     let pos = seconds(alloc, &pos)?;
     let neg = seconds(alloc, &neg)?;
     Ok(Some(Entry::Eliminate { var, pos, neg, new }))
-}
-
-// Whether a clause of the cell is a tautology.
-fn has_tautology(cell: &Cell) -> bool
-    ensures { result ≡ list_any (λ c. is_tautology c.clause) cell.now.clauses }
-{
-    for (_, clause) in cell.iter() {
-        if clause.is_tautology() {
-            return true;
-        }
-    }
-    false
 }
 
 // Whether there is a clause, and the resolvents are at most as many as the clauses and the bound, whose sum may pass a `u64`.

@@ -7,8 +7,8 @@ ghost use Rattle.cp_logic.specs.Entries.{numbered_from};
 ghost use Rattle.cp_logic.specs.Legality.{resolvents};
 ghost use Rattle.cp_eliminate.specs.Resolvents.{resolvents_by, Has};
 
-use crate::lent::Lent;
 use cp_logic::{Clause, Lit, Named, NamedList};
+use cp_occ::Lent;
 use std::alloc::{AllocError, Global};
 
 // Whether the resolvents of the two lists that are no tautologies are at most so many. It stops at the first one above.

@@ -1,9 +1,9 @@
 //! Cells: the clauses of one variable.
 ghost use Rattle.std.specs.Prelude.{◌≡◌, ◌≢◌, ◌≤◌, ◌<◌, ◌+◌, ◌==◌, ℕ, [], ◌∷◌, ◌++◌, length, slice_get, slice_index_or, IsTrue, OnOk, IfOk, IfSome, IfNone};
-ghost use Rattle.std.specs.List.{All};
+ghost use Rattle.std.specs.List.{All, list_any};
 ghost use Rattle.std.specs.Option.{option_map};
 ghost use Rattle.cp_logic.specs.Literals.{positive, negative};
-ghost use Rattle.cp_logic.specs.Clauses.{has_variable, IsAscending};
+ghost use Rattle.cp_logic.specs.Clauses.{has_variable, is_tautology, IsAscending};
 ghost use Rattle.cp_logic.specs.Formulas.{numbers_of, find_number, without_number};
 ghost use Rattle.cp_logic.specs.Legality.{clauses_with};
 ghost use Rattle.cp_logic.specs.Items.{named_item};
@@ -94,6 +94,7 @@ impl Cell {
             left: self.occurrences.as_slice(),
         }
     }
+
     /// The clauses with the variable itself, with their numbers, by ascending number.
     pub fn pos(&self) -> LiteralIter<'_>
         ensures { result ≡ clauses_with self.now.clauses (positive self.now.variable) }
@@ -112,6 +113,18 @@ impl Cell {
             left: self.occurrences.as_slice(),
             lit: Lit::new(self.var, false),
         }
+    }
+
+    /// Whether a clause is a tautology.
+    pub fn has_tautology(&self) -> bool
+        ensures { result ≡ list_any (λ c. is_tautology c.clause) self.now.clauses }
+    {
+        for (_, clause) in self.iter() {
+            if clause.is_tautology() {
+                return true;
+            }
+        }
+        false
     }
 
     /// The clause at the position from 0 on, with its number, or `None` past the last one.

@@ -1,10 +1,12 @@
 //! Iterators over the clauses of a cell.
-ghost use Rattle.std.specs.Prelude.{◌≡◌};
+ghost use Rattle.std.specs.Prelude.{◌≡◌, IfOk};
 ghost use Rattle.std.specs.Iterator.{YieldsFirstBy, item_count};
 ghost use Rattle.cp_logic.specs.Items.{named_item};
 
+use crate::lent::Lent;
 use crate::occurrence::Occurrence;
 use cp_logic::{Clause, Lit};
+use std::alloc::{AllocError, Global};
 use std::marker::Model;
 
 /// The clauses of a cell with their numbers, by ascending number, seen as the list of those that are left.
@@ -51,6 +53,19 @@ impl<'a> Model for LiteralIter<'a> {
     ghost Value = { List Named };
 
     ghost view = { λ it. clauses_with it.left.now it.lit };
+}
+
+impl<'a> LiteralIter<'a> {
+    /// The clauses that are left, in their order. The error comes only for want of memory.
+    pub fn gathered(self, alloc: Global) -> Result<Vec<Lent<'a>>, AllocError>
+        ensures { IfOk result (λ list. list.items ≡ self.entry) }
+    {
+        let mut list = Vec::new(alloc);
+        for (number, clause) in self {
+            list.push(Lent::new(number, clause))?;
+        }
+        Ok(list)
+    }
 }
 
 impl<'a> Iterator for LiteralIter<'a> {

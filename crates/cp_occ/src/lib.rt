@@ -9,6 +9,7 @@ mod cells;
 mod changes;
 mod filling;
 mod iter;
+mod lent;
 mod occurrence;
 mod place;
 #[cfg(test)]
@@ -19,6 +20,7 @@ pub use cell::Cell;
 pub use cells::Cells;
 pub use changes::Prepared;
 pub use iter::{CellIter, LiteralIter};
+pub use lent::Lent;
 pub use place::Place;
 
 // Places and cells may be shared by threads and moved between them.

@@ -1,14 +1,13 @@
-//! The clauses of a cell that have a literal, side by side.
+//! Clauses that a cell lends.
 ghost use Rattle.std.specs.Prelude.{◌≡◌, IfOk};
 
-use cp_logic::Clause;
-use cp_occ::LiteralIter;
-use std::alloc::{AllocError, Global};
+use cp_logic::{Clause, Named};
+use std::alloc::AllocError;
 use std::marker::Model;
 
 /// A clause that a cell lends, with its number, seen as the numbered clause.
 #[derive(Drop)]
-pub(crate) struct Lent<'a> {
+pub struct Lent<'a> {
     number: u64,
     clause: &'a Clause,
 }
@@ -22,29 +21,26 @@ impl<'a> Model for Lent<'a> {
 }
 
 impl<'a> Lent<'a> {
-    fn new(number: u64, clause: &'a Clause) -> Lent<'a>
+    pub(crate) fn new(number: u64, clause: &'a Clause) -> Lent<'a>
         ensures { result ≡ record { number = number; clause = clause.now } }
     {
         Lent { number, clause }
     }
 
-    pub(crate) fn clause(&self) -> &'a Clause
+    /// The clause.
+    pub fn clause(&self) -> &'a Clause
         ensures { result.now ≡ self.now.clause }
     {
         self.clause
     }
-}
 
-// The clauses that are left of the iterator.
-pub(crate) fn gathered<'a>(
-    alloc: Global,
-    clauses: LiteralIter<'a>,
-) -> Result<Vec<Lent<'a>>, AllocError>
-    ensures { IfOk result (λ list. list.items ≡ clauses.entry) }
-{
-    let mut list = Vec::new(alloc);
-    for (number, clause) in clauses {
-        list.push(Lent::new(number, clause))?;
+    /// A second clause of the same literals, with its number. The error comes only for want of memory.
+    pub fn again(&self) -> Result<Named, AllocError>
+        ensures { IfOk result (λ c. c ≡ self.now) }
+    {
+        Ok(Named {
+            number: self.number,
+            clause: self.clause.again()?,
+        })
     }
-    Ok(list)
 }

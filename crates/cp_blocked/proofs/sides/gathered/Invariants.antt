@@ -1,6 +1,0 @@
-use Rattle.std.proofs.Common.{◌≡◌, ◌++◌}
-use Rattle.cp_blocked.proofs.sides.gathered.Given as goal
-
--- the clauses so far and those that are left are all
-abbrev pub invariant-loop-number : goal.invariant-loop-number
-invariant-loop-number l = l.list.items ++ l.number-iterator ≡ l.fn.clauses
