@@ -1,8 +1,12 @@
--- A printed model is read as itself.
-use Rattle.std.specs.Prelude.{◌≡◌, ◌^◌, ◌<◌, ◌≤◌, Bool, List, length, Ok}
+-- The laws of what a text reads as.
+use Rattle.std.specs.Prelude.{◌≡◌, ℕ, ◌+◌, ◌^◌, ◌<◌, ◌≤◌, Bool, List, length, take, Ok}
 use Rattle.cp_io.specs.declared.limits.Limits.{Limits}
 use Rattle.cp_extend.specs.ModelText.{model_text}
 use Rattle.cp_extend.specs.Grammar.{model_reads}
+
+-- What a text reads as depends on no byte behind the first past the limit.
+abbrev pub ReadsWithin : Type 0
+ReadsWithin = (limits : Limits) (variables : ℕ) (bytes : List ℕ) → model_reads limits variables (take (limits.bytes + 1) bytes) ≡ model_reads limits variables bytes
 
 -- Within the limits the text of a model is read, with as many variables as it has, as the model.
 abbrev pub ReadsPrinted : Type 0

@@ -30,7 +30,3 @@ abbrev pub Feeds : Reader → List ℕ → Result Feed ModelRefusal → Reader �
 Feeds old bytes (Ok More) new = (old.refused ≡ false) × (new ≡ record old { bytes = take (old.limits.bytes + 1) (old.bytes ++ bytes) })
 Feeds old bytes (Ok Ended) new = ⊥
 Feeds old bytes (Err refusal) new = (refusal ≡ NoMemory) × (new ≡ record old { refused = true })
-
--- What a text reads as depends on no byte behind the first past the limit.
-abbrev pub ReadsWithin : Type 0
-ReadsWithin = (limits : Limits) (variables : ℕ) (bytes : List ℕ) → model_reads limits variables (take (limits.bytes + 1) bytes) ≡ model_reads limits variables bytes

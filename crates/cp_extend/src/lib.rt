@@ -18,5 +18,5 @@ mod tests;
 
 pub use completion::extend;
 pub use printing::print_model;
-pub use reader::{ModelReader, parse_model, reads_within};
+pub use reader::{ModelReader, parse_model};
 pub use refusal::{ModelKind, ModelRefusal};

@@ -9,7 +9,7 @@
 ghost use Rattle.std.specs.Prelude.{◌≡◌, ◌≢◌, ◌≤◌, [], false, true, length, IfOk};
 ghost use Rattle.cp_extend.specs.declared.refusal.ModelRefusal.TheVariants.{NoMemory};
 ghost use Rattle.cp_extend.specs.Grammar.{told};
-ghost use Rattle.cp_extend.specs.Reads.{AnswersModel, AnswersInto, Feeds, ReadsWithin};
+ghost use Rattle.cp_extend.specs.Reads.{AnswersModel, AnswersInto, Feeds};
 
 use crate::parsing::take_lines;
 use crate::progress::Progress;
@@ -135,9 +135,3 @@ impl ModelReader {
         Ok(model)
     }
 }
-
-/// What a text reads as depends on no byte behind the first past the limit: so a reader answers what all the bytes that it was
-/// fed read as. The function does nothing, and its contract is the law.
-pub fn reads_within()
-    ensures { ReadsWithin }
-{}

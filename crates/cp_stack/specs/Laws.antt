@@ -1,5 +1,5 @@
--- A printed stack is read as itself.
-use Rattle.std.specs.Prelude.{◌≡◌, ℕ, ◌^◌, ◌<◌, ◌≤◌, List, length, Ok, IsTrue}
+-- The laws of what a text reads as.
+use Rattle.std.specs.Prelude.{◌≡◌, ℕ, ◌+◌, ◌^◌, ◌<◌, ◌≤◌, List, length, take, Ok, IsTrue}
 use Rattle.std.specs.List.{All}
 use Rattle.cp_io.specs.declared.limits.Limits.{Limits}
 use Rattle.cp_logic.specs.Clauses.{contains, IsAscending}
@@ -9,6 +9,10 @@ use Rattle.cp_logic.specs.Journals.{Post, IsLegalJournal, folded}
 use Rattle.cp_logic.specs.Assignments.{Pair}
 use Rattle.cp_stack.specs.Text.{stack_text}
 use Rattle.cp_stack.specs.Grammar.{stack_reads}
+
+-- What a text reads as depends on no byte behind the first past the limit.
+abbrev pub ReadsWithin : Type 0
+ReadsWithin = (limits : Limits) (bytes : List ℕ) → stack_reads limits (take (limits.bytes + 1) bytes) ≡ stack_reads limits bytes
 
 -- a clause of literals of the variables from 1 to the number of variables, and one of its literals
 pub record IsPair (variables : ℕ) (p : Pair) : Type 0 where

@@ -14,11 +14,11 @@ use Rattle.cp_io.specs.ReadsUpTo.{ReadsUpTo}
 use Rattle.cp_logic.specs.declared.pairs.Stack.{Stack as HeldStack}
 use Rattle.cp_logic.specs.Slots.{Held}
 use Rattle.cp_dimacs.specs.Grammar.{reads}
-use Rattle.cp_dimacs.proofs.Few.{reads-within as formula-front}
+use Rattle.cp_dimacs.specs.Laws.{ReadsWithin as FormulasWithin}
 use Rattle.cp_stack.specs.Grammar.{stack_reads}
-use Rattle.cp_stack.proofs.TextRead.{reads-kept as stack-front}
+use Rattle.cp_stack.specs.Laws.{ReadsWithin as StacksWithin}
 use Rattle.cp_extend.specs.Grammar.{model_reads}
-use Rattle.cp_extend.proofs.Lengths.{reads-kept as model-front}
+use Rattle.cp_extend.specs.Laws.{ReadsWithin as ModelsWithin}
 use Rattle.cp_top.specs.declared.outcome.Refusal.{Refusal}
 use Rattle.cp_top.specs.declared.outcome.Refusal.TheVariants.{Usage, OpenFault, ReadFault, TooLarge, BadInput, BadStack, BadModel, NoModel, WriteFault, NoMemory}
 use Rattle.cp_top.specs.Input.{ReadsInput, OnlyReads, ReadsFormula, FormulaAnswer, FormulaSaid, ReadsStack, StackAnswer, StackSaid, ReadsModel, ModelAnswer, ModelSaid}
@@ -43,50 +43,50 @@ said says same None bytes answer is e = tt
 said says same (Some text) bytes answer is e = sym (same text) ∙ ap says (sym is) ∙ e
 
 module _ (old new : Ports) (bytes : Vec ℕ) where
-  formula-answer : (result : Result Held Refusal) → IfSome (old Cnf).left (λ text. bytes.items ≡ take (standard_limits.bytes + 1) text) → FormulaSaid bytes.items result → FormulaAnswer result (old Cnf) (new Cnf)
-  formula-answer (Ok f) is h = record { says = said (reads standard_limits) (formula-front standard_limits) (old Cnf).left bytes.items (Ok f.formula) is h.0; valid = h.1; numbers = h.2 }
-  formula-answer (Err (BadInput offset kind)) is h = said (reads standard_limits) (formula-front standard_limits) (old Cnf).left bytes.items _ is h
-  formula-answer (Err (TooLarge role limit offset)) is h = (h.0, said (reads standard_limits) (formula-front standard_limits) (old Cnf).left bytes.items _ is h.1)
-  formula-answer (Err NoMemory) is h = tt
-  formula-answer (Err (Usage kind)) is h = absurd h
-  formula-answer (Err (OpenFault role)) is h = absurd h
-  formula-answer (Err (ReadFault role)) is h = absurd h
-  formula-answer (Err (BadStack offset kind)) is h = absurd h
-  formula-answer (Err (BadModel offset kind)) is h = absurd h
-  formula-answer (Err NoModel) is h = absurd h
-  formula-answer (Err (WriteFault role journal)) is h = absurd h
+  formula-answer : FormulasWithin → (result : Result Held Refusal) → IfSome (old Cnf).left (λ text. bytes.items ≡ take (standard_limits.bytes + 1) text) → FormulaSaid bytes.items result → FormulaAnswer result (old Cnf) (new Cnf)
+  formula-answer front-says (Ok f) is h = record { says = said (reads standard_limits) (front-says standard_limits) (old Cnf).left bytes.items (Ok f.formula) is h.0; valid = h.1; numbers = h.2 }
+  formula-answer front-says (Err (BadInput offset kind)) is h = said (reads standard_limits) (front-says standard_limits) (old Cnf).left bytes.items _ is h
+  formula-answer front-says (Err (TooLarge role limit offset)) is h = (h.0, said (reads standard_limits) (front-says standard_limits) (old Cnf).left bytes.items _ is h.1)
+  formula-answer front-says (Err NoMemory) is h = tt
+  formula-answer front-says (Err (Usage kind)) is h = absurd h
+  formula-answer front-says (Err (OpenFault role)) is h = absurd h
+  formula-answer front-says (Err (ReadFault role)) is h = absurd h
+  formula-answer front-says (Err (BadStack offset kind)) is h = absurd h
+  formula-answer front-says (Err (BadModel offset kind)) is h = absurd h
+  formula-answer front-says (Err NoModel) is h = absurd h
+  formula-answer front-says (Err (WriteFault role journal)) is h = absurd h
 
-  pub formula-read : (result : Result Held Refusal) → AtRole Cnf (ReadsInput Cnf (Ok bytes)) old new → FormulaSaid bytes.items result → AtRole Cnf (ReadsFormula result) old new
-  formula-read result r h = record { here = record { answer = formula-answer result r.here.answer h; only = r.here.only }; others = r.others }
+  pub formula-read : FormulasWithin → (result : Result Held Refusal) → AtRole Cnf (ReadsInput Cnf (Ok bytes)) old new → FormulaSaid bytes.items result → AtRole Cnf (ReadsFormula result) old new
+  formula-read front-says result r h = record { here = record { answer = formula-answer front-says result r.here.answer h; only = r.here.only }; others = r.others }
 
-  stack-answer : (result : Result HeldStack Refusal) → IfSome (old Stack).left (λ text. bytes.items ≡ take (standard_limits.bytes + 1) text) → StackSaid bytes.items result → StackAnswer result (old Stack) (new Stack)
-  stack-answer (Ok s) is h = record { says = said (stack_reads standard_limits) (stack-front standard_limits) (old Stack).left bytes.items _ is h.0; within = h.1 }
-  stack-answer (Err (BadStack offset kind)) is h = said (stack_reads standard_limits) (stack-front standard_limits) (old Stack).left bytes.items _ is h
-  stack-answer (Err (TooLarge role limit offset)) is h = (h.0, said (stack_reads standard_limits) (stack-front standard_limits) (old Stack).left bytes.items _ is h.1)
-  stack-answer (Err NoMemory) is h = tt
-  stack-answer (Err (Usage kind)) is h = absurd h
-  stack-answer (Err (OpenFault role)) is h = absurd h
-  stack-answer (Err (ReadFault role)) is h = absurd h
-  stack-answer (Err (BadInput offset kind)) is h = absurd h
-  stack-answer (Err (BadModel offset kind)) is h = absurd h
-  stack-answer (Err NoModel) is h = absurd h
-  stack-answer (Err (WriteFault role journal)) is h = absurd h
+  stack-answer : StacksWithin → (result : Result HeldStack Refusal) → IfSome (old Stack).left (λ text. bytes.items ≡ take (standard_limits.bytes + 1) text) → StackSaid bytes.items result → StackAnswer result (old Stack) (new Stack)
+  stack-answer front-says (Ok s) is h = record { says = said (stack_reads standard_limits) (front-says standard_limits) (old Stack).left bytes.items _ is h.0; within = h.1 }
+  stack-answer front-says (Err (BadStack offset kind)) is h = said (stack_reads standard_limits) (front-says standard_limits) (old Stack).left bytes.items _ is h
+  stack-answer front-says (Err (TooLarge role limit offset)) is h = (h.0, said (stack_reads standard_limits) (front-says standard_limits) (old Stack).left bytes.items _ is h.1)
+  stack-answer front-says (Err NoMemory) is h = tt
+  stack-answer front-says (Err (Usage kind)) is h = absurd h
+  stack-answer front-says (Err (OpenFault role)) is h = absurd h
+  stack-answer front-says (Err (ReadFault role)) is h = absurd h
+  stack-answer front-says (Err (BadInput offset kind)) is h = absurd h
+  stack-answer front-says (Err (BadModel offset kind)) is h = absurd h
+  stack-answer front-says (Err NoModel) is h = absurd h
+  stack-answer front-says (Err (WriteFault role journal)) is h = absurd h
 
-  pub stack-read : (result : Result HeldStack Refusal) → AtRole Stack (ReadsInput Stack (Ok bytes)) old new → StackSaid bytes.items result → AtRole Stack (ReadsStack result) old new
-  stack-read result r h = record { here = record { answer = stack-answer result r.here.answer h; only = r.here.only }; others = r.others }
+  pub stack-read : StacksWithin → (result : Result HeldStack Refusal) → AtRole Stack (ReadsInput Stack (Ok bytes)) old new → StackSaid bytes.items result → AtRole Stack (ReadsStack result) old new
+  stack-read front-says result r h = record { here = record { answer = stack-answer front-says result r.here.answer h; only = r.here.only }; others = r.others }
 
-  model-answer : (variables : ℕ) (result : Result (List Bool) Refusal) → IfSome (old Model).left (λ text. bytes.items ≡ take (standard_limits.bytes + 1) text) → ModelSaid variables bytes.items result → ModelAnswer variables result (old Model) (new Model)
-  model-answer variables (Ok values) is h = record { says = said (model_reads standard_limits variables) (model-front standard_limits variables) (old Model).left bytes.items _ is h.0; length = h.1 }
-  model-answer variables (Err (BadModel offset kind)) is h = said (model_reads standard_limits variables) (model-front standard_limits variables) (old Model).left bytes.items _ is h
-  model-answer variables (Err NoModel) is h = said (model_reads standard_limits variables) (model-front standard_limits variables) (old Model).left bytes.items _ is h
-  model-answer variables (Err (TooLarge role limit offset)) is h = (h.0, said (model_reads standard_limits variables) (model-front standard_limits variables) (old Model).left bytes.items _ is h.1)
-  model-answer variables (Err NoMemory) is h = tt
-  model-answer variables (Err (Usage kind)) is h = absurd h
-  model-answer variables (Err (OpenFault role)) is h = absurd h
-  model-answer variables (Err (ReadFault role)) is h = absurd h
-  model-answer variables (Err (BadInput offset kind)) is h = absurd h
-  model-answer variables (Err (BadStack offset kind)) is h = absurd h
-  model-answer variables (Err (WriteFault role journal)) is h = absurd h
+  model-answer : ModelsWithin → (variables : ℕ) (result : Result (List Bool) Refusal) → IfSome (old Model).left (λ text. bytes.items ≡ take (standard_limits.bytes + 1) text) → ModelSaid variables bytes.items result → ModelAnswer variables result (old Model) (new Model)
+  model-answer front-says variables (Ok values) is h = record { says = said (model_reads standard_limits variables) (front-says standard_limits variables) (old Model).left bytes.items _ is h.0; length = h.1 }
+  model-answer front-says variables (Err (BadModel offset kind)) is h = said (model_reads standard_limits variables) (front-says standard_limits variables) (old Model).left bytes.items _ is h
+  model-answer front-says variables (Err NoModel) is h = said (model_reads standard_limits variables) (front-says standard_limits variables) (old Model).left bytes.items _ is h
+  model-answer front-says variables (Err (TooLarge role limit offset)) is h = (h.0, said (model_reads standard_limits variables) (front-says standard_limits variables) (old Model).left bytes.items _ is h.1)
+  model-answer front-says variables (Err NoMemory) is h = tt
+  model-answer front-says variables (Err (Usage kind)) is h = absurd h
+  model-answer front-says variables (Err (OpenFault role)) is h = absurd h
+  model-answer front-says variables (Err (ReadFault role)) is h = absurd h
+  model-answer front-says variables (Err (BadInput offset kind)) is h = absurd h
+  model-answer front-says variables (Err (BadStack offset kind)) is h = absurd h
+  model-answer front-says variables (Err (WriteFault role journal)) is h = absurd h
 
-  pub model-read : (variables : ℕ) (result : Result (List Bool) Refusal) → AtRole Model (ReadsInput Model (Ok bytes)) old new → ModelSaid variables bytes.items result → AtRole Model (ReadsModel variables result) old new
-  model-read variables result r h = record { here = record { answer = model-answer variables result r.here.answer h; only = r.here.only }; others = r.others }
+  pub model-read : ModelsWithin → (variables : ℕ) (result : Result (List Bool) Refusal) → AtRole Model (ReadsInput Model (Ok bytes)) old new → ModelSaid variables bytes.items result → AtRole Model (ReadsModel variables result) old new
+  model-read front-says variables result r h = record { here = record { answer = model-answer front-says variables result r.here.answer h; only = r.here.only }; others = r.others }

@@ -15,7 +15,7 @@ use cp_logic::{Assignment, Formula, Stack};
 use cp_stack::{StackRefusal, parse_stack};
 use std::alloc::Global;
 
-// One byte past the limit, so that an input that is too long is seen as such.
+// One byte past the limit, so that an input that is too long is seen as such. No reader looks at more: each has a law that says so.
 const MOST_BYTES: usize = 1_073_741_825;
 
 /// Reads what is left of Cnf as a formula, or says why there is none.
@@ -27,6 +27,7 @@ pub(crate) fn read_formula<D: Desk>(alloc: Global, desk: &mut D) -> Result<Formu
         Ok(bytes) => bytes,
         Err(refusal) => return Err(refusal),
     };
+    cp_dimacs::laws::reads_within();
     parse_formula(alloc, &bytes)
 }
 
@@ -54,6 +55,7 @@ pub(crate) fn read_stack<D: Desk>(alloc: Global, desk: &mut D) -> Result<Stack, 
         Ok(bytes) => bytes,
         Err(refusal) => return Err(refusal),
     };
+    cp_stack::laws::reads_within();
     parse_pairs(alloc, &bytes)
 }
 
@@ -86,6 +88,7 @@ pub(crate) fn read_model<D: Desk>(
         Ok(bytes) => bytes,
         Err(refusal) => return Err(refusal),
     };
+    cp_extend::laws::reads_within();
     parse_values(alloc, vars, &bytes)
 }
 

@@ -1,5 +1,5 @@
 use Rattle.cp_extend.proofs.Lengths.{reads-kept}
-use Rattle.cp_extend.proofs.reader.reads_within.Goals as goal
+use Rattle.cp_extend.proofs.laws.reads_within.Goals as goal
 
 pub returns : goal.returns
 returns c = reads-kept
