@@ -33,25 +33,37 @@ enum Step {
 /// Whether each lemma of the proof is RUP, or RAT on its first literal, where it stands, from the clauses of the formula on. A formula
 /// whose proof isn't empty stands without comments, each clause on a line.
 pub(crate) fn is_right(alloc: Global, formula: &[u8], proof: &[u8]) -> Result<bool, Fail> {
-    let mut clauses: Vec<Literals> = Vec::new(alloc);
     if proof.is_empty() {
         return Ok(true);
     }
+    let mut clauses = clauses_of(alloc, formula)?;
+    for line in lines_of(proof) {
+        if !take_step(alloc, &mut clauses, line)? {
+            return Ok(false);
+        }
+    }
+    Ok(true)
+}
+
+// The clauses of the lines behind the first.
+fn clauses_of(alloc: Global, formula: &[u8]) -> Result<Vec<Literals>, Fail> {
+    let mut clauses = Vec::new(alloc);
     for line in lines_of(formula).skip(1) {
         clauses.push(literals_of(alloc, line)?)?;
     }
-    for line in lines_of(proof) {
-        if let Some(deleted) = line.strip_prefix("d ") {
-            delete(&mut clauses, &literals_of(alloc, deleted)?);
-            continue;
-        }
-        let lemma = literals_of(alloc, line)?;
-        if !is_rup(alloc, &clauses, &lemma)? && !is_rat(alloc, &clauses, &lemma)? {
-            return Ok(false);
-        }
-        clauses.push(lemma)?;
+    Ok(clauses)
+}
+
+// Takes the clause of a deletion out, or puts a lemma in. Whether the line is one or the other.
+fn take_step(alloc: Global, clauses: &mut Vec<Literals>, line: &str) -> Result<bool, Fail> {
+    if let Some(deleted) = line.strip_prefix("d ") {
+        delete(clauses, &literals_of(alloc, deleted)?);
+        return Ok(true);
     }
-    Ok(true)
+    let lemma = literals_of(alloc, line)?;
+    let follows = is_rup(alloc, clauses, &lemma)? || is_rat(alloc, clauses, &lemma)?;
+    clauses.push(lemma)?;
+    Ok(follows)
 }
 
 fn lines_of(text: &[u8]) -> std::str::Lines<'_> {

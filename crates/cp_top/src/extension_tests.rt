@@ -5,6 +5,7 @@ ghost use Rattle.cp_io.specs.Port.{NothingBound};
 ghost use Rattle.cp_io.specs.Memory.{memory_port};
 
 use super::*;
+use crate::tests::{assert_status, assert_told, assert_written, words_of};
 use cp_io::{Bytes, FailAt, FailList, Input, Inputs, MemDesk, Role};
 use std::alloc::{AllocError, Global};
 use std::process::Abort;
@@ -49,130 +50,172 @@ fn desk_with(
     MemDesk::new(alloc, inputs, piece, failing)
 }
 
-// The status and the line of a run, and what it wrote.
+// The outcome of a run, and the desk.
 fn ran(
     alloc: Global,
     text: &str,
     stack: &[u8],
     model: &[u8],
     failing: FailList,
-) -> Result<(u8, String, Vec<u8>), Fail> {
-    let mut words = Vec::new(alloc);
-    for word in text.split(' ') {
-        words.push(String::from_str(alloc, word)?)?;
-    }
+) -> Result<(Outcome, MemDesk), Fail> {
+    let words = words_of(alloc, text)?;
     let mut desk = desk_with(alloc, stack, model, 8, failing)?;
     let outcome = run_extend(alloc, &words, &mut desk);
-    let full = desk.written(Role::Full).to_vec(alloc)?;
-    let line = match &outcome {
-        Outcome::Done { .. } => String::from_str(alloc, "done")?,
-        Outcome::Extended => String::from_str(alloc, "extended")?,
-        Outcome::Generated { .. } => String::from_str(alloc, "generated")?,
-        Outcome::Refused(refusal) => format!(in alloc; "{refusal}")?,
-    };
-    Ok((outcome.status(), line, full))
+    Ok((outcome, desk))
 }
+
+// A run: its words, the stack and the model, and the status, the line and what it writes.
+type Row = (
+    &'static str,
+    &'static [u8],
+    &'static [u8],
+    u8,
+    &'static str,
+    &'static [u8],
+);
+
+fn assert_rows(rt: &impl Abort, alloc: Global, rows: &[Row]) -> Result<(), Fail> {
+    for row in rows {
+        assert_row(rt, alloc, row)?;
+    }
+    Ok(())
+}
+
+fn assert_row(rt: &impl Abort, alloc: Global, row: &Row) -> Result<(), Fail> {
+    let (text, stack, model, status, told, full) = *row;
+    let (outcome, desk) = ran(alloc, text, stack, model, FailList::new(alloc))?;
+    assert_status(rt, &outcome, status);
+    assert_written(rt, &desk, Role::Full, full);
+    assert_told(rt, alloc, &outcome, told)
+}
+
+const WORDS: &str = "extend --stack a";
 
 #[test]
 fn models_are_completed(rt: HostRuntime) -> Result<(), Fail> {
-    let alloc = rt.alloc();
-    let latch: &[u8] = b"p stack 1 8 6\n1 0\n2 0\n3 -4 0\n-3 4 0\n-5 6 0\n5 -6 0\n";
-    let table: [(&[u8], &[u8], &[u8]); 4] = [
-        (STACK, MODEL, FULL),
+    let rows: [Row; 4] = [
+        (WORDS, STACK, MODEL, 10, "extended", FULL),
         (
-            latch,
+            WORDS,
+            b"p stack 1 8 6\n1 0\n2 0\n3 -4 0\n-3 4 0\n-5 6 0\n5 -6 0\n",
             b"s SATISFIABLE\nv 4 0\n",
+            10,
+            "extended",
             b"s SATISFIABLE\nv 1 2 3 4 -5 -6 -7 -8\nv 0\n",
         ),
-        (b"p stack 1 0 0\n", b"v 0\n", b"s SATISFIABLE\nv 0\n"),
+        (
+            WORDS,
+            b"p stack 1 0 0\n",
+            b"v 0\n",
+            10,
+            "extended",
+            b"s SATISFIABLE\nv 0\n",
+        ),
         // A literal above the variables of the stack is passed over, and nothing behind the 0 is looked at.
         (
+            WORDS,
             b"p stack 1 2 1\n-2 1 0\n",
             b"v 2 9 0 x\n",
+            10,
+            "extended",
             b"s SATISFIABLE\nv -1 -2\nv 0\n",
         ),
     ];
-    for (stack, model, full) in table {
-        let (status, line, written) = ran(
-            alloc,
-            "extend --stack a",
-            stack,
-            model,
-            FailList::new(alloc),
-        )?;
-        assert_eq!(rt; line.as_str(), "extended");
-        assert_eq!(rt; status, 10);
-        assert_eq!(rt; written.as_slice(), full);
-    }
-    Ok(())
-}
-
-fn assert_refused(
-    rt: &impl Abort,
-    alloc: Global,
-    table: &[(&[u8], &[u8], u8, &str)],
-) -> Result<(), Fail> {
-    for (stack, model, want, told) in table {
-        let (status, line, written) = ran(
-            alloc,
-            "extend --stack a",
-            stack,
-            model,
-            FailList::new(alloc),
-        )?;
-        assert_eq!(rt; status, *want);
-        assert_eq!(rt; line.as_str(), *told);
-        assert_eq!(rt; written.len(), 0);
-    }
-    Ok(())
+    assert_rows(&rt, rt.alloc(), &rows)
 }
 
 #[test]
 fn bad_models_are_refused(rt: HostRuntime) -> Result<(), Fail> {
-    let table: [(&[u8], &[u8], u8, &str); 4] = [
+    let rows: [Row; 4] = [
         (
+            WORDS,
             STACK,
             b"v 1 -1 0\n",
             65,
             "bad model at byte 4: Contradiction",
+            b"",
         ),
-        (STACK, b"s UNSATISFIABLE\n", 65, "no model"),
-        (STACK, b"v 1\n", 65, "bad model at byte 4: NoEnd"),
+        (WORDS, STACK, b"s UNSATISFIABLE\n", 65, "no model", b""),
         (
+            WORDS,
+            STACK,
+            b"v 1\n",
+            65,
+            "bad model at byte 4: NoEnd",
+            b"",
+        ),
+        (
+            WORDS,
             STACK,
             b"v 2000001 0\n",
             69,
             "model has too many variables at byte 2",
+            b"",
         ),
     ];
-    assert_refused(&rt, rt.alloc(), &table)
+    assert_rows(&rt, rt.alloc(), &rows)
 }
 
 // The stack is read first.
 #[test]
 fn bad_stacks_are_refused(rt: HostRuntime) -> Result<(), Fail> {
-    let table: [(&[u8], &[u8], u8, &str); 4] = [
+    let rows: [Row; 4] = [
         (
+            WORDS,
             b"p stack 1 3 3\n1 2 0\n",
             MODEL,
             65,
             "bad stack at byte 20: Count",
+            b"",
         ),
         (
+            WORDS,
             b"p stack 1 3 1\n4 0\n",
             MODEL,
             65,
             "bad stack at byte 14: TooGreat",
+            b"",
         ),
         (
+            WORDS,
             b"p stack 1 2000001 0\n",
             MODEL,
             69,
             "stack has too many variables at byte 10",
+            b"",
         ),
-        (b"", b"v x\n", 65, "bad stack at byte 0: BadHeader"),
+        (
+            WORDS,
+            b"",
+            b"v x\n",
+            65,
+            "bad stack at byte 0: BadHeader",
+            b"",
+        ),
     ];
-    assert_refused(&rt, rt.alloc(), &table)
+    assert_rows(&rt, rt.alloc(), &rows)
+}
+
+// A run whose call at this place fails has this status and this line. What it wrote is a front of the model, and nothing where a call
+// to open or to read failed.
+fn assert_failing(
+    rt: &impl Abort,
+    alloc: Global,
+    at: FailAt,
+    status: u8,
+    told: &str,
+) -> Result<(), Fail> {
+    let mut failing = FailList::new(alloc);
+    failing.push(at)?;
+    let (outcome, desk) = ran(alloc, WORDS, STACK, MODEL, failing)?;
+    assert_status(rt, &outcome, status);
+    assert_front(rt, desk.written(Role::Full), status);
+    assert_told(rt, alloc, &outcome, told)
+}
+
+fn assert_front(rt: &impl Abort, written: &[u8], status: u8) {
+    assert!(rt; FULL.starts_with(written));
+    assert!(rt; status != 66 || written.is_empty());
 }
 
 #[test]
@@ -189,13 +232,7 @@ fn failing_calls_are_told(rt: HostRuntime) -> Result<(), Fail> {
         (Role::Proof, 1, 10, "extended"),
     ];
     for (role, nth, want, told) in table {
-        let mut failing = FailList::new(alloc);
-        failing.push(FailAt { role, nth })?;
-        let (status, line, written) = ran(alloc, "extend --stack a", STACK, MODEL, failing)?;
-        assert_eq!(rt; status, want);
-        assert_eq!(rt; line.as_str(), told);
-        assert!(rt; FULL.starts_with(written.as_slice()));
-        assert!(rt; want != 66 || written.is_empty());
+        assert_failing(&rt, alloc, FailAt { role, nth }, want, told)?;
     }
     Ok(())
 }
@@ -213,10 +250,7 @@ fn other_words_are_refused(rt: HostRuntime) -> Result<(), Fail> {
         ("extend a --stack", "bad options"),
     ];
     for (text, told) in table {
-        let (status, line, written) = ran(alloc, text, STACK, MODEL, FailList::new(alloc))?;
-        assert_eq!(rt; status, 64);
-        assert_eq!(rt; line.as_str(), told);
-        assert_eq!(rt; written.len(), 0);
+        assert_row(&rt, alloc, &(text, STACK, MODEL, 64, told, b""))?;
     }
     Ok(())
 }

@@ -5,6 +5,7 @@ ghost use Rattle.cp_io.specs.Port.{NothingBound};
 ghost use Rattle.cp_io.specs.Memory.{memory_port};
 
 use super::*;
+use crate::tests::{assert_status, assert_written, words_of};
 use cp_io::{Inputs, MemDesk, Role};
 use std::alloc::{AllocError, Global};
 use std::test::Fail;
@@ -33,13 +34,10 @@ fn desk_of(alloc: Global) -> Result<MemDesk, AllocError>
 #[test]
 fn a_small_formula_is_made_and_counted(rt: HostRuntime) -> Result<(), Fail> {
     let alloc = rt.alloc();
-    let mut words = Vec::new(alloc);
-    for word in "generate --seed 7 --vars 3 --clauses 2".split(' ') {
-        words.push(String::from_str(alloc, word)?)?;
-    }
+    let words = words_of(alloc, "generate --seed 7 --vars 3 --clauses 2")?;
     let mut desk = desk_of(alloc)?;
     let outcome = run_gen(alloc, &words, &mut desk);
-    assert_eq!(rt; outcome.status(), 0);
-    assert_eq!(rt; desk.written(Role::Summary), COUNTS);
+    assert_status(&rt, &outcome, 0);
+    assert_written(&rt, &desk, Role::Summary, COUNTS);
     Ok(())
 }

@@ -5,6 +5,7 @@ ghost use Rattle.cp_io.specs.Port.{NothingBound};
 ghost use Rattle.cp_io.specs.Memory.{memory_port};
 
 use super::*;
+use crate::tests::{assert_written, words_of};
 use cp_io::{Bytes, Input, Inputs, MemDesk, Role};
 use cp_worker::OpenGate;
 use std::alloc::{AllocError, Global};
@@ -35,26 +36,24 @@ fn assert_shift<R: Threads + Sync + Abort>(
     text: &str,
     want: (usize, usize, usize),
 ) -> Result<(), Fail> {
-    let mut words = Vec::new(alloc);
-    for word in text.split(' ') {
-        words.push(String::from_str(alloc, word)?)?;
-    }
+    let words = words_of(alloc, text)?;
     let mut desk = desk_of(alloc)?;
     let outcome = run(rt, alloc, &words, &mut desk, &OpenGate);
-    assert_eq!(rt; desk.written(Role::Reduced), b"p cnf 3 0\n".as_slice());
-    let Outcome::Done { shifts, .. } = &outcome else {
-        assert!(rt; false, "refused");
-        return Ok(());
+    assert_written(rt, &desk, Role::Reduced, b"p cnf 3 0\n");
+    assert_one_shift(rt, &outcome, want);
+    Ok(())
+}
+
+fn assert_one_shift(rt: &impl Abort, outcome: &Outcome, want: (usize, usize, usize)) {
+    let Outcome::Done { shifts, .. } = outcome else {
+        panic!(rt; "refused");
     };
     assert_eq!(rt; shifts.len(), 1);
     if let Some(shift) = shifts.get(0) {
         assert_eq!(rt; (shift.worker, shift.round), (1, 1));
-        assert_eq!(rt;
-            (shift.taken.len(), shift.commits.len(), shift.wide.len()),
-            want
-        );
+        let counts = (shift.taken.len(), shift.commits.len(), shift.wide.len());
+        assert_eq!(rt; counts, want);
     }
-    Ok(())
 }
 
 #[test]
