@@ -6,11 +6,12 @@ ghost use Rattle.cp_logic.specs.Views.{entry_of};
 ghost use Rattle.cp_yard.specs.Views.{base_of, unlocked};
 ghost use Rattle.cp_yard.specs.Rows.{HasThree, Fits, IsSameSeat};
 
-use crate::{Held, Receipt, Seat, Yard};
+use crate::{Receipt, Seat, Yard};
 use cp_book::Book;
 use cp_logic::{Choice, Clause, Entry, Formula, Lit, Named, NamedList, Rules};
 use cp_occ::Cells;
 use std::alloc::{AllocError, Global};
+use std::process::Abort;
 use std::test::Fail;
 
 const RULES: Rules = Rules {
@@ -173,13 +174,28 @@ fn post_and_unlock(
     }
 }
 
+fn assert_number(rt: &impl Abort, number: u32, want: u32) {
+    assert_eq!(rt; number, want);
+}
+
+fn assert_count(rt: &impl Abort, count: usize, want: usize) {
+    assert_eq!(rt; count, want);
+}
+
+fn assert_receipt(rt: &impl Abort, receipt: Receipt, position: u64) {
+    assert_eq!(rt; receipt, Receipt { position });
+}
+
 #[test]
 fn the_turn_goes_from_seat_to_seat(rt: HostRuntime) -> Result<(), Fail> {
+    let entry = elimination(rt.alloc())?;
     let (yard, mut zero) = yard_of(rt.alloc())?;
     let mut first = yard.split(&mut zero);
     let mut second = yard.split(&mut zero);
-    assert_eq!(rt; (first.number(), second.number()), (1, 2));
-    assert_eq!(rt; (zero.made(), yard.vars()), (3, 3));
+    assert_number(&rt, first.number(), 1);
+    assert_number(&rt, second.number(), 2);
+    assert_number(&rt, zero.made(), 3);
+    assert_number(&rt, yard.vars(), 3);
     if !lock_all(&yard, &mut first) {
         panic!(rt; "the locks are free");
     }
@@ -189,21 +205,21 @@ fn the_turn_goes_from_seat_to_seat(rt: HostRuntime) -> Result<(), Fail> {
     let Err(met) = yard.try_turn(&mut second) else {
         panic!(rt; "the first seat has the turn");
     };
-    assert_eq!(rt; met, Held { by: 1 });
-    let entry = elimination(rt.alloc())?;
+    assert_number(&rt, met.by, 1);
     let Some(receipt) = post_and_unlock(rt.alloc(), &yard, &mut first, book, entry)? else {
         panic!(rt; "the entry is legal");
     };
-    assert_eq!(rt; receipt, Receipt { position: 0 });
+    assert_receipt(&rt, receipt, 0);
     let Ok(book) = yard.try_turn(&mut second) else {
         panic!(rt; "the turn is free again");
     };
-    assert_eq!(rt; book.journal().len(), 1);
+    assert_count(&rt, book.journal().len(), 1);
     yard.end_turn(&mut second, book);
     yard.join(&mut zero, first);
     yard.join(&mut zero, second);
     let (ground, _record) = yard.close(zero);
-    assert_eq!(rt; (ground.book.journal().len(), ground.cells.len()), (1, 3));
+    assert_count(&rt, ground.book.journal().len(), 1);
+    assert_count(&rt, ground.cells.len(), 3);
     Ok(())
 }
 
@@ -218,21 +234,23 @@ fn locks_are_met_until_they_are_given_back(rt: HostRuntime) -> Result<(), Fail> 
     let Err(met) = yard.try_lock(&mut first, 3) else {
         panic!(rt; "the second seat holds 3");
     };
-    assert_eq!(rt; met, Held { by: 2 });
+    assert_number(&rt, met.by, 2);
     let Ok(one) = yard.try_lock(&mut second, 1) else {
         panic!(rt; "the lock of 1 is free");
     };
-    assert_eq!(rt; (one.var(), one.len(), three.len()), (1, 2, 1));
+    assert_number(&rt, one.var(), 1);
+    assert_count(&rt, one.len(), 2);
+    assert_count(&rt, three.len(), 1);
     yard.unlock(&mut second, 1, one);
     yard.unlock(&mut second, 3, three);
     let Ok(centre) = yard.try_lock(&mut first, 1) else {
         panic!(rt; "the lock of 1 is free again");
     };
-    assert_eq!(rt; centre.len(), 2);
+    assert_count(&rt, centre.len(), 2);
     yard.unlock(&mut first, 1, centre);
     yard.join(&mut zero, first);
     yard.join(&mut zero, second);
     let (ground, _record) = yard.close(zero);
-    assert!(rt; ground.book.journal().is_empty());
+    assert_count(&rt, ground.book.journal().len(), 0);
     Ok(())
 }
