@@ -85,6 +85,12 @@ def planted(rng, clauses, model):
         yield clause
 
 
+def cnf_text(variables, clauses):
+    """The clauses with their literals as they stand."""
+    lines = ["p cnf %d %d\n" % (variables, len(clauses))] + [" ".join(map(str, clause + [0])) + "\n" for clause in clauses]
+    return "".join(lines).encode()
+
+
 def options(rng):
     """All techniques in three runs of four, else some of them; several rounds; narrow and wide neighbourhoods."""
     letters = ALL_LETTERS if rng.random() < 0.75 else "".join(rng.sample(ALL_LETTERS, rng.randint(1, 4)))
@@ -247,8 +253,8 @@ def fault_of(rng, run, formula, letters, bound, model):
 def tried(rng, program, kind, clauses, model, words, letters=ALL_LETTERS, bound=0):
     """Whether a run on the clauses is as it should be. The model, if one is known, is one of them."""
     variables = max(abs(literal) for clause in clauses for literal in clause)
-    text = "p cnf %d %d\n" % (variables, len(clauses)) + "".join(" ".join(map(str, c + [0])) + "\n" for c in clauses)
-    run = Run(program, words, text.encode())
+    text = cnf_text(variables, clauses)
+    run = Run(program, words, text)
     try:
         fault = fault_of(rng, run, [frozenset(clause) for clause in clauses], letters, bound, model)
     except (ValueError, AttributeError, IndexError) as error:
