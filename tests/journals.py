@@ -42,8 +42,8 @@ Entry = collections.namedtuple("Entry", "kind at lists")
 Post = collections.namedtuple("Post", "worker round entry")
 Shift = collections.namedtuple("Shift", "worker round stopped taken commits busy late wide")
 Rules = collections.namedtuple("Rules", "letters bound budget")
-# The numbers of a run: of variables, and what its words ask for.
-Sizes = collections.namedtuple("Sizes", "variables workers rounds hood")
+# The number of variables, and what the words of a run ask for.
+Asked = collections.namedtuple("Asked", "variables workers rounds hood form", defaults=("text",))
 
 
 class Fault(Exception):
@@ -329,44 +329,44 @@ def folded(fold, rules, posts, stopped):
 # The workers.
 
 
-def want_workers_first(sizes, posts, begun):
+def want_workers_first(asked, posts, begun):
     own = [at for at, post in enumerate(posts) if post.worker == 0]
     wants(own == list(range(len(posts) - len(own), len(posts))), "the posts of the sweep behind those of the workers")
     for at, post in enumerate(posts):
         if post.worker == 0:
             wants(post.round == 0, "the round 0 of the sweep at post %d", at)
         else:
-            wants(1 <= post.worker <= sizes.workers and 1 <= post.round <= begun, "a worker and a round that were at post %d", at)
+            wants(1 <= post.worker <= asked.workers and 1 <= post.round <= begun, "a worker and a round that were at post %d", at)
 
 
-def want_shifts(sizes, posts, shifts, stopped):
+def want_shifts(asked, posts, shifts, stopped):
     """The shifts stand by round and then worker."""
-    wants(len(shifts) % sizes.workers == 0, "a shift of each worker in each round")
-    begun = len(shifts) // sizes.workers
-    wants(begun <= sizes.rounds, "at most %d rounds", sizes.rounds)
-    want_workers_first(sizes, posts, begun)
+    wants(len(shifts) % asked.workers == 0, "a shift of each worker in each round")
+    begun = len(shifts) // asked.workers
+    wants(begun <= asked.rounds, "at most %d rounds", asked.rounds)
+    want_workers_first(asked, posts, begun)
     who = [(shift.round, shift.worker) for shift in shifts]
-    wants(who == [(r + 1, w + 1) for r in range(begun) for w in range(sizes.workers)], "the shifts by round and then worker")
-    rounds = [shifts[r * sizes.workers : (r + 1) * sizes.workers] for r in range(begun)]
+    wants(who == [(r + 1, w + 1) for r in range(begun) for w in range(asked.workers)], "the shifts by round and then worker")
+    rounds = [shifts[r * asked.workers : (r + 1) * asked.workers] for r in range(begun)]
     for number, team in enumerate(rounds, 1):
         have_stopped = any(shift.stopped != "none" for shift in team)
-        wants(have_stopped or begun == sizes.rounds or number < begun, "%d rounds, as no shift stopped", sizes.rounds)
+        wants(have_stopped or begun == asked.rounds or number < begun, "%d rounds, as no shift stopped", asked.rounds)
         wants(not have_stopped or number == begun, "no round behind one in which a shift stopped")
-        want_taken(sizes, sorted(x for shift in team for x in shift.taken), have_stopped)
+        want_taken(asked, sorted(x for shift in team for x in shift.taken), have_stopped)
     for shift in shifts:
-        want_shift(sizes, posts, shift)
+        want_shift(asked, posts, shift)
         wants(shift.stopped in ("none", stopped), "the stop of the run, %s, of each shift that stopped", stopped)
-    for worker in range(sizes.workers):
-        commits = [position for shift in shifts[worker :: sizes.workers] for position in shift.commits]
+    for worker in range(asked.workers):
+        commits = [position for shift in shifts[worker :: asked.workers] for position in shift.commits]
         wants(commits == sorted(commits), "rising rounds of worker %d", worker + 1)
 
 
-def want_taken(sizes, taken, have_stopped):
-    wants(len(set(taken)) == len(taken) and set(taken) <= set(range(1, sizes.variables + 1)), "each variable taken once in a round")
-    wants(have_stopped or len(taken) == sizes.variables, "each variable taken in a round")
+def want_taken(asked, taken, have_stopped):
+    wants(len(set(taken)) == len(taken) and set(taken) <= set(range(1, asked.variables + 1)), "each variable taken once in a round")
+    wants(have_stopped or len(taken) == asked.variables, "each variable taken in a round")
 
 
-def want_shift(sizes, posts, shift):
+def want_shift(asked, posts, shift):
     who = "worker %d in round %d" % (shift.worker, shift.round)
     own = [at for at, post in enumerate(posts) if (post.worker, post.round) == (shift.worker, shift.round)]
     wants(shift.commits == own, "the commits %r of %s", own, who)
@@ -376,9 +376,9 @@ def want_shift(sizes, posts, shift):
         at = [item[0] for item in cause]
         wants(at == [x for x in shift.taken if x in at], "candidates left in the order in which %s took them", who)
     met = [item[-1] for item in shift.busy + shift.late]
-    wants(all(1 <= by <= sizes.workers and by != shift.worker for by in met), "another worker that was met by %s", who)
-    wants(all(1 <= var <= sizes.variables for _, var, _ in shift.busy), "a variable whose lock was met by %s", who)
-    wants(all(sizes.hood < count <= sizes.variables for _, count in shift.wide), "a neighbourhood too wide for %s", who)
+    wants(all(1 <= by <= asked.workers and by != shift.worker for by in met), "another worker that was met by %s", who)
+    wants(all(1 <= var <= asked.variables for _, var, _ in shift.busy), "a variable whose lock was met by %s", who)
+    wants(all(asked.hood < count <= asked.variables for _, count in shift.wide), "a neighbourhood too wide for %s", who)
     without_posts = {item[0] for item in shift.busy + shift.wide}
     visited = iter([x for x in shift.taken if x not in without_posts])
     x = next(visited, None)
@@ -413,27 +413,27 @@ def proof_of(fold):
     return "".join(("d " if deletes else "") + line_of(ordered(clause)) for deletes, clause in fold.log).encode()
 
 
-def want_texts(fold, texts):
-    """The texts of the formula, the stack and the proof, this one in text form or as the items of the binary one; and the status."""
+def want_texts(fold, form, texts):
+    """The texts of the formula, the stack and the proof in its form; and the status."""
     status = 20 if fold.is_refuted else 0 if fold.clauses else 10
     wants(texts["status"] == status, "the status %d of the fold", status)
     wants(texts["reduced"] == reduced_of(fold), "the reduced formula of the fold")
     wants(texts["stack"] == stack_of(fold), "the pairs of the fold")
-    proof = texts["proof"]
-    if isinstance(proof, bytes):
-        wants(proof == proof_of(fold), "the log of the fold")
+    if form == "text":
+        wants(texts["proof"] == proof_of(fold), "the log of the fold")
     else:
-        wants(proof == [(deletes, ordered(clause)) for deletes, clause in fold.log], "the log of the fold")
+        items = [(deletes, ordered(clause)) for deletes, clause in fold.log]
+        wants(check.binary_proof_of(texts["proof"]) == items, "the log of the fold")
 
 
-def fault_of(clauses, sizes, rules, told, texts):
+def fault_of(clauses, asked, rules, told, texts):
     """What is wrong with what a run on the clauses told and wrote, or nothing."""
     try:
         posts, shifts, stopped = journal_of(told)
-        fold = Fold(sizes.variables, clauses)
+        fold = Fold(asked.variables, clauses)
         folded(fold, rules, posts, stopped)
-        want_shifts(sizes, posts, shifts, stopped)
-        want_texts(fold, texts)
+        want_shifts(asked, posts, shifts, stopped)
+        want_texts(fold, asked.form, texts)
     except Fault as fault:
         return str(fault)
     except (ValueError, KeyError, IndexError, StopIteration) as error:
@@ -442,11 +442,11 @@ def fault_of(clauses, sizes, rules, told, texts):
 
 
 # Stated runs of two workers in two rounds, worked by hand: what they are given, their journals and their texts.
-Stated = collections.namedtuple("Stated", "cnf sizes rules told texts")
+Stated = collections.namedtuple("Stated", "cnf asked rules told texts")
 
 WHOLE = Stated(
     b"p cnf 6 6\n1 -1 2 0\n3 4 0\n3 4 5 0\n-3 4 6 0\n5 6 0\n-5 2 0\n",
-    Sizes(variables=6, workers=2, rounds=2, hood=4),
+    Asked(variables=6, workers=2, rounds=2, hood=4),
     Rules(letters="tsxbe", bound=0, budget=0),
     """\
 post 1 1 t gone 1 1 -1 2 0
@@ -472,7 +472,7 @@ stopped none
 
 REFUTED = Stated(
     b"p cnf 1 2\n1 0\n-1 0\n",
-    Sizes(variables=1, workers=2, rounds=2, hood=4),
+    Asked(variables=1, workers=2, rounds=2, hood=4),
     Rules(letters="x", bound=0, budget=0),
     """\
 post 2 1 x -1 by 1 1 0 on 2 -1 0 new 3 0
@@ -519,8 +519,8 @@ CHANGES = [
     # Two posts that may stand in either order, but not beside this proof.
     ([("s by 2 3 4 0 gone 3 3 4 5 0\npost 2 1 x -3 by 2 3 4 0 on 4 -3 4 6 0 new 7 4 6 0",
        "x -3 by 2 3 4 0 on 4 -3 4 6 0 new 7 4 6 0\npost 2 1 s by 2 3 4 0 gone 3 3 4 5 0")], "the log of the fold"),
-    ([("post 1 1 t gone 1 1 -1 2 0\npost 2 1 s by 2 3 4 0 gone 3 3 4 5 0", "post 2 1 s by 2 3 4 0 gone 3 3 4 5 0\npost 1 1 t gone 1 1 -1 2 0")],
-     "the commits [1] of worker 1 in round 1"),
+    ([("post 1 1 t gone 1 1 -1 2 0\npost 2 1 s by 2 3 4 0 gone 3 3 4 5 0",
+       "post 2 1 s by 2 3 4 0 gone 3 3 4 5 0\npost 1 1 t gone 1 1 -1 2 0")], "the commits [1] of worker 1 in round 1"),
     # The sweep.
     ([("b 2 gone 8", "b 6 gone 8")], "the sweep's b, at post 5"),
     ([("post 0 0 b 2 gone 8 2 6 0\npost 0 0 b 4 gone 7 4 6 0", "post 0 0 b 4 gone 7 4 6 0\npost 0 0 b 2 gone 8 2 6 0")],
@@ -570,20 +570,17 @@ CHANGES = [
 ]
 
 # A run with another piece in the place of its own, and what is wrong with it.
-PROOF = check.proof_of(WHOLE.texts["proof"])
 OTHERS = [
     (WHOLE, ""),
     (WHOLE._replace(rules=Rules("tsxe", 0, 0)), "that the technique b is chosen, at post 4"),
     (WHOLE._replace(rules=Rules("tsxbe", 0, 7)), "the stop spent"),
     (WHOLE._replace(rules=Rules("tsxbe", 0, 6)), "that the budget isn't spent, at post 6"),
-    (WHOLE._replace(sizes=Sizes(6, 2, 1, 4)), "at most 1 rounds"),
-    (WHOLE._replace(sizes=Sizes(6, 2, 3, 4)), "3 rounds, as no shift stopped"),
+    (WHOLE._replace(asked=Asked(6, 2, 1, 4)), "at most 1 rounds"),
+    (WHOLE._replace(asked=Asked(6, 2, 3, 4)), "3 rounds, as no shift stopped"),
     (WHOLE._replace(texts={**WHOLE.texts, "status": 0}), "the status 10 of the fold"),
     (WHOLE._replace(texts={**WHOLE.texts, "reduced": b"p cnf 6 1\n4 6 0\n"}), "the reduced formula of the fold"),
     (WHOLE._replace(texts={**WHOLE.texts, "stack": b"p stack 1 6 5\n5 6 0\n-5 2 0\n3 4 0\n4 6 0\n2 6 0\n"}), "the pairs of the fold"),
     (WHOLE._replace(texts={**WHOLE.texts, "proof": b""}), "the log of the fold"),
-    (WHOLE._replace(texts={**WHOLE.texts, "proof": PROOF}), ""),
-    (WHOLE._replace(texts={**WHOLE.texts, "proof": PROOF[:-1]}), "the log of the fold"),
     (REFUTED, ""),
     (REFUTED._replace(told=REFUTED.told.replace("shift 1 1", "post 2 1 x 1 by 2 -1 0 on 1 1 0 new 4 0\nshift 1 1")),
      "that clause 2 stands as it is told, at post 1"),
@@ -591,6 +588,8 @@ OTHERS = [
      "no entry behind the empty clause, at post 1"),
     (REFUTED._replace(told=REFUTED.told.replace("stopped refuted", "stopped none")), "the stop refuted"),
     (REFUTED._replace(texts={**REFUTED.texts, "proof": b"0\nd -1 0\n"}), "the log of the fold"),
+    (REFUTED._replace(asked=Asked(1, 2, 2, 4, "binary"), texts={**REFUTED.texts, "proof": b"a\0"}), ""),
+    (REFUTED._replace(asked=Asked(1, 2, 2, 4, "binary"), texts={**REFUTED.texts, "proof": b"a\0d\3\0"}), "the log of the fold"),
 ]
 
 
@@ -604,7 +603,7 @@ def changed(told, changes):
 
 def fault_of_stated(stated):
     clauses = check.clauses_of(stated.cnf)
-    return fault_of(clauses, stated.sizes, stated.rules, stated.told.encode(), stated.texts)
+    return fault_of(clauses, stated.asked, stated.rules, stated.told.encode(), stated.texts)
 
 
 def check_rows():
@@ -627,6 +626,7 @@ class Tally:
         self.posts = collections.Counter()
         self.together = 0
         self.left = 0
+        self.stopped = 0
 
     def count(self, told):
         posts, shifts, _ = journal_of(told)
@@ -634,6 +634,12 @@ class Tally:
         self.posts.update("workers" if worker else "the sweep" for worker in by)
         self.together += len(set(by) - {0}) > 1
         self.left += sum(len(shift.busy) + len(shift.late) for shift in shifts)
+        self.stopped += sum(shift.stopped != "none" for shift in shifts)
+
+    def __str__(self):
+        posts = self.posts["workers"], self.together, self.posts["the sweep"]
+        text = "%d posts by workers, in %d runs by more than one, and %d by the sweep; " % posts
+        return text + "%d candidates left at a lock or a turn; %d shifts that stopped" % (self.left, self.stopped)
 
 
 def options(rng, count):
@@ -643,22 +649,17 @@ def options(rng, count):
     return Rules(letters, bound, budget), words + ["--budget", str(budget)]
 
 
-def value_of(words, name):
-    return int(words[words.index(name) + 1])
-
-
 def tried(rng, program, kind, size, count_of_workers, tally):
     """Whether a run on a formula of the kind is as it should be."""
     clauses, _ = workers.made(rng, kind, size)
     rules, words = options(rng, size)
     variables = max(abs(literal) for clause in clauses for literal in clause)
-    sizes = Sizes(variables, count_of_workers, value_of(words, "--rounds"), value_of(words, "--hood"))
+    rounds, hood, form = (words[words.index(name) + 1] for name in ("--rounds", "--hood", "--proof-form"))
+    asked = Asked(variables, count_of_workers, int(rounds), int(hood), form)
     text = workers.cnf_text(variables, clauses)
     run = workers.Run(program, ["--workers", str(count_of_workers)] + words, text)
     texts = {**run.text, "status": run.status}
-    if "binary" in words:
-        texts["proof"] = check.binary_proof_of(texts["proof"])
-    fault = fault_of([frozenset(clause) for clause in clauses], sizes, rules, run.said, texts)
+    fault = fault_of([frozenset(clause) for clause in clauses], asked, rules, run.said, texts)
     if not fault:
         tally.count(run.said)
         shutil.rmtree(run.folder)
@@ -680,9 +681,8 @@ def main():
         for kind in workers.KINDS for size in (workers.SMALL, workers.LARGE) for number in workers.WORKERS for _ in range(count)
     ]
     print("journals: %d passed, %d failed" % (sum(results), len(results) - sum(results)))
-    print("journals: %d posts by workers and %d by the sweep; in %d runs more than one worker posted; %d candidates were left at a lock or a turn"
-          % (tally.posts["workers"], tally.posts["the sweep"], tally.together, tally.left))
-    return 0 if all(results) and tally.together else 1
+    print("journals: %s" % tally)
+    return 0 if all(results) and tally.posts["workers"] else 1
 
 
 if __name__ == "__main__":
