@@ -15,8 +15,9 @@ checked goes by the definitions and holds in every interleaving:
 - the posts of the sweep are those of its definition, up to where nothing applies or the run stops, and the stop is the right one;
 - the formula, the pairs and the log of the fold are the texts that were written.
 
-A run that fails prints its command, its formula and what was expected, and its folder is kept. `rows` checks the checker: it takes a
-stated journal, and none of those made of it by a change.
+A run that fails prints its command, its formula and what was expected, and its folder is kept. At the end stands what the journals
+had, since a run in which one worker did all shows little. `rows` checks the checker: it takes stated journals, and refuses those that
+a change makes of them, each for what the change makes wrong.
 """
 import collections
 import itertools
@@ -290,7 +291,7 @@ def is_legal(fold, rules, entry):
 
 
 def next_of_sweep(fold, rules, mark):
-    """The variable and the entry, or two times None. That of a spent budget isn't asked for."""
+    """The variable and the entry, or two times None. The formula isn't refuted, and the budget isn't spent."""
     for variable in list(range(mark, fold.variables + 1)) + list(range(1, mark)):
         if variable not in fold.quiet:
             found = next((e for e in candidates(fold, variable, rules.letters, rules.bound) if is_legal(fold, rules, e)), None)
