@@ -1,29 +1,32 @@
 -- A visit, commit by commit.
-use Rattle.std.proofs.Common.{◌≡◌, ℕ, List, [], ◌∷◌, ◌++◌, map, length, append_assoc, append-nil, Some, None, inl, inr, refl, sym, ◌∙◌, ap, subst}
-use Rattle.std.specs.Prelude.{IsTrue}
+use Rattle.std.proofs.Common.{◌≡◌, ◌<◌, ℕ, ◌+◌, List, [], ◌∷◌, ◌++◌, length, append_assoc, append-nil, Option, Some, None, inl, inr, refl, sym, ◌∙◌, ap, subst}
+use Rattle.std.specs.Prelude.{IsTrue, Result, Err, IfOk}
 use Rattle.std.specs.List.{All}
 use Rattle.std.proofs.lemmas.List.{map-append}
-use Rattle.std.proofs.lemmas.List.Elements.{All-nil, All-cons, All-append}
+use Rattle.std.proofs.lemmas.Grind.{flat_map-append}
+use Rattle.std.proofs.lemmas.List.Elements.{All-nil, All-cons, All-append, All-push, All-same}
+use Rattle.std.proofs.lemmas.Result.{IfOk-weaker}
 use Rattle.cp_logic.specs.declared.named.Named.{Named}
 use Rattle.cp_logic.specs.declared.settings.Rules.{Rules}
+use Rattle.cp_logic.specs.declared.settings.Stop.TheVariants.{Spent as ForBudget, Numbers as ForNumbers, Refuted as ForRefutation}
+use Rattle.cp_logic.specs.Lists.{Roomy}
+use Rattle.cp_logic.specs.Formulas.{neighbourhood}
 use Rattle.cp_logic.specs.Entries.{Entry, is_at, numbered}
 use Rattle.cp_logic.specs.Legality.{first_in}
 use Rattle.cp_logic.specs.Journals.{Post}
 use Rattle.cp_logic.specs.Locality.{after}
 use Rattle.cp_yard.specs.Views.{Base, Note, Got, GotTurn, Met, MetTurn, SeatView}
 use Rattle.cp_hood.specs.Hoods.{HoodView, centre_clauses}
-use Rattle.cp_hood.specs.Seats.{GoesOn, EndWith}
-use Rattle.std.specs.Prelude.{Result, Err, IfOk}
-use Rattle.cp_hood.specs.Commits.{left_by, post_after, IsCommit}
+use Rattle.cp_hood.specs.Seats.{GoesOn, EndWith, met_turns}
+use Rattle.cp_hood.specs.Commits.{left_by, post_after, GetsTurn, IsCommit}
 use Rattle.cp_hood.proofs.Going.{GoesOn-none, GoesOn-then}
 use Rattle.cp_hood.specs.Tries.{IsWhole, IsCut, IsTooWide, gots, other_cells}
 use Rattle.cp_hood.specs.declared.answers.CommitAnswer.{CommitAnswer}
 use Rattle.cp_hood.specs.declared.answers.CommitAnswer.TheVariants.{TurnHeld, Refuted, Spent, Numbers, NoMemory}
 use Rattle.cp_worker.specs.declared.answer.AtAnswer.{AtAnswer}
 use Rattle.cp_worker.specs.declared.answer.AtAnswer.TheVariants.{Settled, Busy, Wide, TurnHeld as Late, Stopped}
-use Rattle.cp_logic.specs.declared.settings.Stop.TheVariants.{Spent as ForBudget, Numbers as ForNumbers, Refuted as ForRefutation}
-use Rattle.cp_logic.specs.Lists.{Roomy}
-use Rattle.cp_worker.specs.Visits.{positions, commits_of, clauses_after, IsPostOf, IsVisit}
+use Rattle.cp_worker.specs.Visits.{positions, commits_of, clauses_after, hood_tries, turn_tries, IsPostOf, AreTurns, AreCommits, IsHeld, notes_of, EndsLocked, EndsVisit, IsVisit}
+use Rattle.cp_worker.specs.Shifts.{Gives, IsSettled, EndsStopped}
 use Rattle.cp_worker.specs.Posting.{HasPosted, IsRefusal, IsCauseOf}
 use Rattle.cp_worker.proofs.Centres.{posted-at, centre-after}
 
@@ -36,6 +39,7 @@ pub record IsUnderWay (v w : SeatView) (x in_round : ℕ) (cs now : List Named) 
   pub posts : All (IsPostOf v.number in_round) posted
   pub at : All (λ q. IsTrue (is_at x q.1.entry)) posted
   pub clauses : now ≡ clauses_after x cs posted
+  pub turns : AreTurns posted noted
 
 pub begins : (v : SeatView) (x in_round : ℕ) (cs : List Named) (listed : List ℕ) → listed ≡ [] → IsUnderWay v v x in_round cs cs listed
 begins v x in_round cs listed e = record {
@@ -46,16 +50,24 @@ begins v x in_round cs listed e = record {
   posts = All-nil (IsPostOf v.number in_round);
   at = All-nil (λ (q : ℕ × Post). IsTrue (is_at x q.1.entry));
   clauses = refl;
+  turns = refl;
 }
 
 clauses_after-more : (x : ℕ) (cs : List Named) (ps qs : List (ℕ × Post)) → clauses_after x cs (ps ++ qs) ≡ clauses_after x (clauses_after x cs ps) qs
 clauses_after-more x cs [] qs = refl
 clauses_after-more x cs (p ∷ ps) qs = clauses_after-more x (after cs x p.1.entry) ps qs
 
+-- the turn was got once more
+turns-more : (posted : List (ℕ × Post)) (q : ℕ × Post) (turns row : List Note) (h : List Post) → AreTurns posted turns → GetsTurn turn_tries row h → q.0 ≡ length h
+    → AreTurns (posted ++ q ∷ []) (turns ++ row)
+turns-more [] q turns row h e g n = (h, row, [], ap (λ (ns : List Note). ns ++ row) e ∙ sym (append-nil row), g, n, refl)
+turns-more (p ∷ ps) q turns row h (j, first, rest, e, g, n, more) k m =
+    (j, first, rest ++ row, ap (λ (ns : List Note). ns ++ row) e ∙ append_assoc first rest row, g, n, turns-more ps q rest row h more k m)
+
 -- one commit more
 pub goes_on : (v w u : SeatView) (x in_round : ℕ) (cs : List Named) (rules : Rules) (old new : HoodView) (e : Entry) (listed now : List ℕ) (noted : List Note) (posted : List (ℕ × Post))
     → old.centre ≡ x → first_in (centre_clauses old) rules 1 old.centre ≡ Some e → IsUnderWay v w x in_round cs (centre_clauses old) listed
-    → GoesOn w u noted posted → HasPosted w.base w.number in_round e old new listed now posted → IsUnderWay v u x in_round cs (centre_clauses new) now
+    → GoesOn w u noted posted → HasPosted w.base w.number in_round e old new listed now noted posted → IsUnderWay v u x in_round cs (centre_clauses new) now
 goes_on v w u x in_round cs rules old new e listed now noted posted at found way go p =
     let n = (left_by w.base p.before).next in
     let q : ℕ × Post = (length p.before, post_after w.base p.before w.number in_round e) in
@@ -70,16 +82,17 @@ goes_on v w u x in_round cs rules old new e listed now noted posted at found way
           (All-cons (λ (z : ℕ × Post). IsTrue (is_at x z.1.entry)) q [] is_at_x (All-nil (λ (z : ℕ × Post). IsTrue (is_at x z.1.entry))));
       clauses = centre-after rules n e old new found p.hood ∙ ap (λ (ds : List Named). after ds old.centre (numbered n e)) way.clauses
           ∙ ap (λ z. after (clauses_after x cs way.posted) z (numbered n e)) at ∙ sym (clauses_after-more x cs way.posted (q ∷ []));
+      turns = turns-more way.posted q way.noted noted p.before way.turns p.turn refl;
     }
 
 -- where nothing applies at last
-pub settles : (v w : SeatView) (x in_round limit : ℕ) (cs now : List Named) (commits : Roomy ℕ) (before more : List Note) (way : IsUnderWay v w x in_round cs now commits.items)
-    → first_in now v.base.rules 1 x ≡ None → IsVisit v.base v.number x in_round limit (before ++ Got x cs ∷ (more ++ way.noted)) way.posted (Settled commits)
-settles v w x in_round limit cs now commits before more way none = record {
+pub settles : (v w : SeatView) (x in_round : ℕ) (cs now : List Named) (commits : Roomy ℕ) (way : IsUnderWay v w x in_round cs now commits.items)
+    → first_in now v.base.rules 1 x ≡ None → AreCommits v.base v.number x in_round cs way.noted way.posted (Settled commits)
+settles v w x in_round cs now commits way none = record {
   commits = way.commits;
   posts = way.posts;
   at = way.at;
-  cause = (before, cs, more ++ way.noted, refl, ap (λ (ds : List Named). first_in ds v.base.rules 1 x) (sym way.clauses) ∙ none);
+  cause = (way.turns, ap (λ (ds : List Named). first_in ds v.base.rules 1 x) (sym way.clauses) ∙ none);
 }
 
 -- ---- a refusal
@@ -87,51 +100,39 @@ settles v w x in_round limit cs now commits before more way none = record {
 pub EndWith-later : (n : Note) (before noted : List Note) → EndWith n noted → EndWith n (before ++ noted)
 EndWith-later n before noted (first, e) = (before ++ first, ap (λ (ns : List Note). before ++ ns) e ∙ sym (append_assoc before first (n ∷ [])))
 
-refusal-later : (f : Base) (e : Entry) (before noted : List Note) (a : CommitAnswer) → IsRefusal f e noted a → IsRefusal f e (before ++ noted) a
-refusal-later f e before noted (TurnHeld by) r = EndWith-later (MetTurn by) before noted r
-refusal-later f e before noted (Refuted empty) (h, r, s) = (h, EndWith-later (GotTurn h) before noted r, s)
-refusal-later f e before noted (Spent len) (h, r, s) = (h, EndWith-later (GotTurn h) before noted r, s)
-refusal-later f e before noted (Numbers next) (h, r, s) = (h, EndWith-later (GotTurn h) before noted r, s)
-refusal-later f e before noted NoMemory r = tt
-
-notes-joined : (before more ns ms : List Note) (n : Note) → (before ++ n ∷ (more ++ ns)) ++ ms ≡ before ++ n ∷ (more ++ (ns ++ ms))
-notes-joined before more ns ms n = append_assoc before (n ∷ (more ++ ns)) ms ∙ ap (λ (zs : List Note). before ++ n ∷ zs) (append_assoc more ns ms)
-
 -- where an entry is refused at last
-pub refuses : (v w : SeatView) (x in_round limit : ℕ) (cs now : List Named) (listed : List ℕ) (before more noted : List Note) (way : IsUnderWay v w x in_round cs now listed)
+pub refuses : (v w : SeatView) (x in_round : ℕ) (cs now : List Named) (listed : List ℕ) (noted : List Note) (way : IsUnderWay v w x in_round cs now listed)
     (e : Entry) (a : CommitAnswer) (answer : AtAnswer) → first_in now v.base.rules 1 x ≡ Some e → IsRefusal w.base e noted a → commits_of answer ≡ listed → IsCauseOf a answer
-    → IsVisit v.base v.number x in_round limit (before ++ Got x cs ∷ (more ++ (way.noted ++ noted))) way.posted answer
-refuses v w x in_round limit cs now listed before more noted way e a answer found r lists cause = record {
+    → AreCommits v.base v.number x in_round cs (way.noted ++ noted) way.posted answer
+refuses v w x in_round cs now listed noted way e a answer found r lists cause = record {
   commits = lists ∙ way.commits;
   posts = way.posts;
   at = way.at;
-  cause = cause v.base x limit e (before ++ Got x cs ∷ (more ++ (way.noted ++ noted))) way.posted
-      (before, cs, more ++ (way.noted ++ noted), refl, ap (λ (ds : List Named). first_in ds v.base.rules 1 x) (sym way.clauses) ∙ found)
-      (subst (λ (ns : List Note). IsRefusal v.base e ns a) (notes-joined before more way.noted noted (Got x cs))
-      (refusal-later v.base e (before ++ Got x cs ∷ (more ++ way.noted)) noted a (subst (λ (f : Base). IsRefusal f e noted a) way.goes.base r)));
+  cause = cause v.base x cs e way.noted noted way.posted way.turns (ap (λ (ds : List Named). first_in ds v.base.rules 1 x) (sym way.clauses) ∙ found)
+      (subst (λ (f : Base). IsRefusal f e noted a) way.goes.base r);
 }
 
 -- each refusal of an entry, as a cause
 pub caused-late : (by : ℕ) (commits : Roomy ℕ) → IsCauseOf (TurnHeld by) (Late by commits)
-caused-late by commits f x limit e noted posted gives r = (e, r, gives)
+caused-late by commits f x cs e turns last posted all found r = (e, turns, last, refl, all, r, found)
 
 pub caused-refuted : (empty : ℕ) (commits : Roomy ℕ) → IsCauseOf (Refuted empty) (Stopped ForRefutation commits)
-caused-refuted empty commits f x limit e noted posted gives (h, r, stop) = (h, e, r, gives, stop)
+caused-refuted empty commits f x cs e turns last posted all found (h, r, stop) = (e, h, turns, last, refl, all, r, found, stop)
 
 pub caused-spent : (len : ℕ) (commits : Roomy ℕ) → IsCauseOf (Spent len) (Stopped ForBudget commits)
-caused-spent len commits f x limit e noted posted gives (h, r, stop) = (h, e, r, gives, stop)
+caused-spent len commits f x cs e turns last posted all found (h, r, stop) = (e, h, turns, last, refl, all, r, found, stop)
 
 pub caused-numbers : (next : ℕ) (commits : Roomy ℕ) → IsCauseOf (Numbers next) (Stopped ForNumbers commits)
-caused-numbers next commits f x limit e noted posted gives (h, r, stop) = (h, e, r, gives, stop)
+caused-numbers next commits f x cs e turns last posted all found (h, r, stop) = (e, h, turns, last, refl, all, r, found, stop)
 
 -- what a commit that was refused says of it
-pub refusal-of : (f : Base) (worker in_round tries : ℕ) (e : Entry) (old new : HoodView) (notes : List Note) (posts : List (ℕ × Post)) (a : CommitAnswer)
-    → IsCommit f worker in_round tries e old new notes posts (Err a) → (posts ≡ []) × IsRefusal f e notes a
-refusal-of f worker in_round tries e old new notes posts (TurnHeld by) (m, p, s) = (p, (map MetTurn m.0, m.2))
-refusal-of f worker in_round tries e old new notes posts (Refuted empty) (h, t, l, stop, p, s) = (p, (h, (map MetTurn t.0, t.2), stop))
-refusal-of f worker in_round tries e old new notes posts (Spent len) (h, t, l, stop, p, s) = (p, (h, (map MetTurn t.0, t.2), stop))
-refusal-of f worker in_round tries e old new notes posts (Numbers next) (h, t, l, stop, p, s) = (p, (h, (map MetTurn t.0, t.2), stop))
-refusal-of f worker in_round tries e old new notes posts NoMemory (h, t, p, s) = (p, tt)
+pub refusal-of : (f : Base) (worker in_round : ℕ) (e : Entry) (old new : HoodView) (notes : List Note) (posts : List (ℕ × Post)) (a : CommitAnswer)
+    → IsCommit f worker in_round turn_tries e old new notes posts (Err a) → (posts ≡ []) × IsRefusal f e notes a
+refusal-of f worker in_round e old new notes posts (TurnHeld by) (m, p, s) = (p, m)
+refusal-of f worker in_round e old new notes posts (Refuted empty) (h, t, l, stop, p, s) = (p, (h, t, stop))
+refusal-of f worker in_round e old new notes posts (Spent len) (h, t, l, stop, p, s) = (p, (h, t, stop))
+refusal-of f worker in_round e old new notes posts (Numbers next) (h, t, l, stop, p, s) = (p, (h, t, stop))
+refusal-of f worker in_round e old new notes posts NoMemory (h, t, p, s) = (p, tt)
 
 pub refused-goes : (v w u : SeatView) (x in_round : ℕ) (cs now : List Named) (listed : List ℕ) (noted : List Note) (posted : List (ℕ × Post)) (way : IsUnderWay v w x in_round cs now listed)
     → GoesOn w u noted posted → posted ≡ [] → GoesOn v u (way.noted ++ noted) way.posted
@@ -145,41 +146,108 @@ GoesOn-last u v w ns ps g h =
     subst (λ (ms : List Note). GoesOn u w ms ps) (append-nil ns)
     (subst (GoesOn u w (ns ++ [])) (append-nil ps) (GoesOn-then u v w ns [] ps [] g h))
 
--- one try more
-pub tried_again : (u v w : SeatView) (before notes : List Note) → GoesOn u v before [] → GoesOn v w notes [] → GoesOn u w (before ++ notes) []
-tried_again u v w before notes g h = GoesOn-then u v w before notes [] [] g h
+-- one try more, which met a held lock
+pub tried_again : (u v w : SeatView) (x limit : ℕ) (held : List (List Note)) (notes : List Note) (var by : ℕ) → All (IsHeld x limit) held → GoesOn u v (notes_of held) [] → GoesOn v w notes [] → IsCut x limit notes var by
+    → All (IsHeld x limit) (held ++ notes ∷ []) × GoesOn u w (notes_of (held ++ notes ∷ [])) []
+tried_again u v w x limit held notes var by all g h cut = (
+  All-push (IsHeld x limit) held notes all (var, by, cut),
+  subst (λ (ns : List Note). GoesOn u w ns []) (ap (λ (ns : List Note). notes_of held ++ ns) (sym (append-nil notes)) ∙ sym (flat_map-append (λ (t : List Note). t) held (notes ∷ [])))
+      (GoesOn-then u v w (notes_of held) notes [] [] g h),
+)
 
--- the whole neighbourhood was got
-pub visited : (v w : SeatView) (x in_round limit : ℕ) (before last noted : List Note) (posted : List (ℕ × Post)) (h : HoodView) {E : Type 0} (r : Result AtAnswer E)
-    → GoesOn v w (before ++ last) [] → IsWhole x limit last h
-    → ((limit : ℕ) (before more : List Note) → IfOk r (IsVisit w.base w.number h.centre in_round limit (before ++ Got h.centre (centre_clauses h) ∷ (more ++ noted)) posted))
-    → IfOk r (IsVisit v.base v.number x in_round limit ((before ++ last) ++ noted) posted)
-visited v w x in_round limit before last noted posted h r go whole under =
-    let cs = centre_clauses h in let more = gots (other_cells x h.cells) in
-    let notes : (before ++ last) ++ noted ≡ before ++ Got x cs ∷ (more ++ noted) =
-    append_assoc before last noted ∙ ap (λ (ns : List Note). before ++ (ns ++ noted)) whole.notes in
-    subst (λ (ns : List Note). IfOk r (IsVisit v.base v.number x in_round limit ns posted)) (sym notes)
-    (subst (λ z. IfOk r (IsVisit v.base v.number z in_round limit (before ++ Got z cs ∷ (more ++ noted)) posted)) whole.centre
-    (subst (λ n. IfOk r (IsVisit v.base n h.centre in_round limit (before ++ Got h.centre cs ∷ (more ++ noted)) posted)) go.number
-    (subst (λ (f : Base). IfOk r (IsVisit f w.number h.centre in_round limit (before ++ Got h.centre cs ∷ (more ++ noted)) posted)) go.base
-    (under limit before more))))
+module _ (f : Base) (number x in_round limit : ℕ) (held : List (List Note)) (last : List Note) (few : length held < hood_tries) (each : All (IsHeld x limit) held) where
+  -- the whole neighbourhood was got
+  visit-locked : (noted : List Note) (posted : List (ℕ × Post)) (answer : AtAnswer) → EndsLocked f number x in_round limit last noted posted answer → EndsVisit f number x in_round limit (length held) last noted posted answer
+  visit-locked noted posted (Settled commits) h = h
+  visit-locked noted posted (Busy var by) h = absurd (h.2.cause)
+  visit-locked noted posted (Wide count) h = absurd (h.2.cause)
+  visit-locked noted posted (Late by commits) h = h
+  visit-locked noted posted (Stopped stop commits) h = h
+
+  pub visit-of : (noted : List Note) (posted : List (ℕ × Post)) (answer : AtAnswer) → EndsLocked f number x in_round limit last noted posted answer
+      → IsVisit f number x in_round limit ((notes_of held ++ last) ++ noted) posted answer
+  visit-of noted posted answer h = record {
+    held = held;
+    last = last;
+    later = noted;
+    notes = append_assoc (notes_of held) last noted;
+    few = few;
+    each = each;
+    ended = visit-locked noted posted answer h;
+  }
+
+  notes-are : notes_of held ++ last ≡ notes_of held ++ (last ++ [])
+  notes-are = ap (λ (ns : List Note). notes_of held ++ ns) (sym (append-nil last))
+
+  pub visit-busy : (var by : ℕ) → length held + 1 ≡ hood_tries → IsCut x limit last var by → IsVisit f number x in_round limit (notes_of held ++ last) [] (Busy var by)
+  visit-busy var by enough cut = record { held = held; last = last; later = []; notes = notes-are; few = few; each = each; ended = (enough, cut, refl, refl) }
+
+  pub visit-wide : (count : ℕ) → IsTooWide x limit last count → IsVisit f number x in_round limit (notes_of held ++ last) [] (Wide count)
+  visit-wide count wide = record { held = held; last = last; later = []; notes = notes-are; few = few; each = each; ended = (wide, refl, refl) }
+
+pub visited : (v w : SeatView) (x in_round limit : ℕ) (held : List (List Note)) (last noted : List Note) (posted : List (ℕ × Post)) (h : HoodView) {E : Type 0} (r : Result AtAnswer E)
+    → GoesOn v w (notes_of held ++ last) [] → length held < hood_tries → All (IsHeld x limit) held → IsWhole x limit last h
+    → IfOk r (AreCommits w.base w.number h.centre in_round (centre_clauses h) noted posted)
+    → IfOk r (IsVisit v.base v.number x in_round limit ((notes_of held ++ last) ++ noted) posted)
+visited v w x in_round limit held last noted posted h r go few each whole under =
+    let cs = centre_clauses h in
+    IfOk-weaker r (AreCommits w.base w.number h.centre in_round cs noted posted) (IsVisit v.base v.number x in_round limit ((notes_of held ++ last) ++ noted) posted)
+    (λ a c. visit-of v.base v.number x in_round limit held last few each noted posted a (
+      h,
+      whole,
+      subst (λ (z : Base × (ℕ × ℕ)). AreCommits z.0 z.1.0 z.1.1 in_round cs noted posted a) (λ i. (go.base i, (go.number i, whole.centre i))) c,
+    ))
+    under
+
+-- ---- what a shift needs of a visit
 
 cut-end : (x limit : ℕ) (notes : List Note) (var by : ℕ) → IsCut x limit notes var by → EndWith (Met var by) notes
 cut-end x limit notes var by (inl (e, n)) = ([], n ∙ ap (λ z. Met z by ∷ []) (sym e))
 cut-end x limit notes var by (inr (cs, got, left, within, order, n)) = (Got x cs ∷ gots got, n)
 
-pub visit-busy : (f : Base) (number x in_round limit : ℕ) (before last : List Note) (var by : ℕ) → IsCut x limit last var by → IsVisit f number x in_round limit (before ++ last) [] (Busy var by)
-visit-busy f number x in_round limit before last var by cut = record {
-  commits = refl;
-  posts = All-nil (IsPostOf number in_round);
-  at = All-nil (λ (q : ℕ × Post). IsTrue (is_at x q.1.entry));
-  cause = EndWith-later (Met var by) before last (cut-end x limit last var by cut);
-}
+-- the cause of its end, among its notes
+abbrev pub IsSeen : Base → ℕ → ℕ → List Note → List (ℕ × Post) → AtAnswer → Type 0
+IsSeen f x limit noted posted (Settled commits) = IsSettled f x noted posted
+IsSeen f x limit noted posted (Busy var by) = EndWith (Met var by) noted
+IsSeen f x limit noted posted (Wide count) = (cs : List Named) × EndWith (Got x cs) noted × (count ≡ length (neighbourhood cs x)) × (limit < count)
+IsSeen f x limit noted posted (Late by commits) = EndWith (MetTurn by) noted
+IsSeen f x limit noted posted (Stopped stop commits) = EndsStopped f x noted posted stop
 
-pub visit-wide : (f : Base) (number x in_round limit : ℕ) (before last : List Note) (count : ℕ) → IsTooWide x limit last count → IsVisit f number x in_round limit (before ++ last) [] (Wide count)
-visit-wide f number x in_round limit before last count (cs, n, e, l) = record {
-  commits = refl;
-  posts = All-nil (IsPostOf number in_round);
-  at = All-nil (λ (q : ℕ × Post). IsTrue (is_at x q.1.entry));
-  cause = (cs, EndWith-later (Got x cs) before last ([], n), e, l);
-}
+module _ (f : Base) (number x in_round limit : ℕ) (noted : List Note) (posted : List (ℕ × Post)) where
+  abbrev Front : AtAnswer → Type 0
+  Front answer = IsVisit f number x in_round limit noted posted answer
+
+  ends : (answer : AtAnswer) (v : Front answer) (n : Note) (turns last : List Note) → v.later ≡ turns ++ last → EndWith n last → EndWith n noted
+  ends answer v n turns last e w = subst (EndWith n) (sym v.notes)
+      (EndWith-later n (notes_of v.held) (v.last ++ v.later) (EndWith-later n v.last v.later (subst (EndWith n) (sym e) (EndWith-later n turns last w))))
+
+  ends-last : (answer : AtAnswer) (v : Front answer) (n : Note) → v.later ≡ [] → EndWith n v.last → EndWith n noted
+  ends-last answer v n e w = subst (EndWith n) (sym (v.notes ∙ ap (λ (ns : List Note). notes_of v.held ++ ns) (ap (λ (ns : List Note). v.last ++ ns) e ∙ append-nil v.last)))
+      (EndWith-later n (notes_of v.held) v.last w)
+
+  gives : (answer : AtAnswer) (v : Front answer) (h : HoodView) (o : Option Entry) → IsWhole x limit v.last h → first_in (clauses_after x (centre_clauses h) posted) f.rules 1 x ≡ o → Gives f x noted posted o
+  gives answer v h o whole found =
+      (notes_of v.held, centre_clauses h, gots (other_cells x h.cells) ++ v.later, v.notes ∙ ap (λ (ns : List Note). notes_of v.held ++ (ns ++ v.later)) whole.notes, found)
+
+  pub seen : (answer : AtAnswer) → Front answer → IsSeen f x limit noted posted answer
+  seen (Settled commits) v = let (h, whole, c) = v.ended in gives (Settled commits) v h None whole c.cause.1
+  seen (Busy var by) v = ends-last (Busy var by) v (Met var by) v.ended.2 (cut-end x limit v.last var by v.ended.1)
+  seen (Wide count) v = let (cs, n, e, l) = v.ended.0 in (cs, ends-last (Wide count) v (Got x cs) v.ended.1 ([], n), e, l)
+  seen (Late by commits) v = let (h, whole, c) = v.ended in let (e, turns, last, n, all, t, found) = c.cause in
+      ends (Late by commits) v (MetTurn by) turns last n (met_turns t.0, t.2)
+  seen (Stopped stop commits) v = let (h, whole, c) = v.ended in let (e, j, turns, last, n, all, t, found, refused) = c.cause in
+      (j, e, ends (Stopped stop commits) v (GotTurn j) turns last n (met_turns t.0, t.2), gives (Stopped stop commits) v h (Some e) whole found, refused)
+
+  pub commits_are : (answer : AtAnswer) → Front answer → commits_of answer ≡ positions posted
+  commits_are (Settled commits) v = v.ended.2.commits
+  commits_are (Busy var by) v = sym (ap positions v.ended.3)
+  commits_are (Wide count) v = sym (ap positions v.ended.2)
+  commits_are (Late by commits) v = v.ended.2.commits
+  commits_are (Stopped stop commits) v = v.ended.2.commits
+
+  pub posts_are : (answer : AtAnswer) → Front answer → All (IsPostOf number in_round) posted
+  posts_are (Settled commits) v = v.ended.2.posts
+  posts_are (Busy var by) v = All-same (IsPostOf number in_round) posted [] v.ended.3 (All-nil (IsPostOf number in_round))
+  posts_are (Wide count) v = All-same (IsPostOf number in_round) posted [] v.ended.2 (All-nil (IsPostOf number in_round))
+  posts_are (Late by commits) v = v.ended.2.posts
+  posts_are (Stopped stop commits) v = v.ended.2.posts

@@ -19,10 +19,10 @@ use Rattle.cp_worker.specs.declared.lists.BusyAt.{BusyAt}
 use Rattle.cp_worker.specs.declared.lists.LateAt.{LateAt}
 use Rattle.cp_worker.specs.declared.lists.WideAt.{WideAt}
 use Rattle.cp_worker.specs.declared.lists.WorkerShift.{WorkerShift}
-use Rattle.cp_worker.specs.Visits.{IsVisit, HasCause, Gives, IsSettled, IsPostOf, positions, commits_of}
+use Rattle.cp_worker.specs.Visits.{IsVisit, IsPostOf, positions, commits_of}
 use Rattle.cp_worker.specs.Listing.{IsListing, busy_of, late_of, wide_of, stopped_after}
-use Rattle.cp_worker.specs.Shifts.{IsShift, IsBusy, IsLate, IsWide, IsAccounted, IsLast, IsStopped}
-use Rattle.cp_worker.proofs.Commits.{EndWith-later}
+use Rattle.cp_worker.specs.Shifts.{IsShift, Gives, IsSettled, IsBusy, IsLate, IsWide, IsAccounted, IsLast, IsStopped}
+use Rattle.cp_worker.proofs.Commits.{EndWith-later, IsSeen, seen, commits_are, posts_are}
 
 in_end : (n : Note) (before noted : List Note) → EndWith n noted → Contains (before ++ noted) n
 in_end n before noted (first, e) = Contains-append_right before noted n (subst (λ (ns : List Note). Contains ns n) (sym e) (Contains-push first n))
@@ -38,21 +38,21 @@ none_from None b e f = refl
 none_from (Some x) b e f = absurd (false≢true (sym f ∙ e))
 
 module _ (f : Base) (number x in_round limit : ℕ) (noted more : List Note) (posted posts : List (ℕ × Post)) where
-  busy_here : (answer : AtAnswer) → HasCause f x limit more posts answer → All (IsBusy (noted ++ more)) (busy_of x answer)
+  busy_here : (answer : AtAnswer) → IsSeen f x limit more posts answer → All (IsBusy (noted ++ more)) (busy_of x answer)
   busy_here (Settled commits) h = All-nil (IsBusy (noted ++ more))
   busy_here (Busy var by) h = All-cons (IsBusy (noted ++ more)) (record { at = x; var = var; by = by }) [] (in_end (Met var by) noted more h) (All-nil (IsBusy (noted ++ more)))
   busy_here (Wide count) h = All-nil (IsBusy (noted ++ more))
   busy_here (TurnHeld by commits) h = All-nil (IsBusy (noted ++ more))
   busy_here (Stopped stop commits) h = All-nil (IsBusy (noted ++ more))
 
-  late_here : (answer : AtAnswer) → HasCause f x limit more posts answer → All (IsLate (noted ++ more)) (late_of x answer)
+  late_here : (answer : AtAnswer) → IsSeen f x limit more posts answer → All (IsLate (noted ++ more)) (late_of x answer)
   late_here (Settled commits) h = All-nil (IsLate (noted ++ more))
   late_here (Busy var by) h = All-nil (IsLate (noted ++ more))
   late_here (Wide count) h = All-nil (IsLate (noted ++ more))
-  late_here (TurnHeld by commits) h = All-cons (IsLate (noted ++ more)) (record { at = x; by = by }) [] (in_end (MetTurn by) noted more h.1) (All-nil (IsLate (noted ++ more)))
+  late_here (TurnHeld by commits) h = All-cons (IsLate (noted ++ more)) (record { at = x; by = by }) [] (in_end (MetTurn by) noted more h) (All-nil (IsLate (noted ++ more)))
   late_here (Stopped stop commits) h = All-nil (IsLate (noted ++ more))
 
-  wide_here : (answer : AtAnswer) → HasCause f x limit more posts answer → All (IsWide limit (noted ++ more)) (wide_of x answer)
+  wide_here : (answer : AtAnswer) → IsSeen f x limit more posts answer → All (IsWide limit (noted ++ more)) (wide_of x answer)
   wide_here (Settled commits) h = All-nil (IsWide limit (noted ++ more))
   wide_here (Busy var by) h = All-nil (IsWide limit (noted ++ more))
   wide_here (Wide count) (cs, e, n, l) =
@@ -63,7 +63,7 @@ module _ (f : Base) (number x in_round limit : ℕ) (noted more : List Note) (po
   gives_later : (y : ℕ) (own : List (ℕ × Post)) (o : Option Entry) → Gives f y more own o → Gives f y (noted ++ more) own o
   gives_later y own o (before, cs, after, e, found) = (noted ++ before, cs, after, ap (λ (ns : List Note). noted ++ ns) e ∙ sym (append_assoc noted before (Got y cs ∷ after)), found)
 
-  stopped_here : (answer : AtAnswer) (stop : Stop) (earlier : List ℕ) (o now : Option Stop) → HasCause f x limit more posts answer → o ≡ None → now ≡ stopped_after answer o → now ≡ Some stop
+  stopped_here : (answer : AtAnswer) (stop : Stop) (earlier : List ℕ) (o now : Option Stop) → IsSeen f x limit more posts answer → o ≡ None → now ≡ stopped_after answer o → now ≡ Some stop
       → IsStopped f (noted ++ more) (posted ++ posts) (earlier ++ x ∷ []) stop
   stopped_here (Settled commits) stop earlier o now h n e s = absurd (none_some o stop n (sym e ∙ s))
   stopped_here (Busy var by) stop earlier o now h n e s = absurd (none_some o stop n (sym e ∙ s))
@@ -74,7 +74,7 @@ module _ (f : Base) (number x in_round limit : ℕ) (noted more : List Note) (po
       (x, (earlier, refl), (posted, posts, refl, (j, entry, EndWith-later (GotTurn j) noted more ended, gives_later x posts (Some entry) gives, refused)))
 
   -- the candidate itself
-  account_here : (answer : AtAnswer) (old new : WorkerShift) → HasCause f x limit more posts answer → IsListing x answer old new
+  account_here : (answer : AtAnswer) (old new : WorkerShift) → IsSeen f x limit more posts answer → IsListing x answer old new
       → IsAccounted f (noted ++ more) (posted ++ posts) new x ⊎ (IsLast x new.taken.items × ((stop : Stop) × (new.stopped ≡ Some stop)))
   account_here (Settled commits) old new h l =
       inl (inr (inr (inr (posted, posts, [], ap (λ (ps : List (ℕ × Post)). posted ++ ps) (sym (append-nil posts)), gives_later x posts None h))))
@@ -126,35 +126,35 @@ starts-shift f number in_round limit s w r t c b l d n = record {
 pub visits-more : (f : Base) (number in_round limit : ℕ) (noted more : List Note) (posted posts : List (ℕ × Post)) (drawn : List ℕ) (n : ℕ) (answer : AtAnswer) (old new : WorkerShift)
     → old.stopped ≡ None → IsShift f number in_round limit noted posted drawn old → IsVisit f number (n + 1) in_round limit more posts answer → IsListing (n + 1) answer old new
     → IsShift f number in_round limit (noted ++ more) (posted ++ posts) (drawn ++ n ∷ []) new
-visits-more f number in_round limit noted more posted posts drawn n answer old new unstopped s v l = record {
+visits-more f number in_round limit noted more posted posts drawn n answer old new unstopped s v l = let see = seen f number (n + 1) in_round limit more posts answer v in record {
   worker = l.worker ∙ s.worker;
   round = l.round ∙ s.round;
   taken = l.taken ∙ ap (λ (xs : List ℕ). xs ++ (n + 1) ∷ []) s.taken ∙ sym (map-append (λ k. k + 1) drawn (n ∷ []));
-  commits = l.commits ∙ ap (λ (ns : List ℕ). ns ++ commits_of answer) s.commits ∙ ap (λ (ns : List ℕ). positions posted ++ ns) v.commits
+  commits = l.commits ∙ ap (λ (ns : List ℕ). ns ++ commits_of answer) s.commits ∙ ap (λ (ns : List ℕ). positions posted ++ ns) (commits_are f number (n + 1) in_round limit more posts answer v)
       ∙ sym (map-append (λ (q : ℕ × Post). q.0) posted posts);
-  posts = All-append (IsPostOf number in_round) posted posts s.posts v.posts;
+  posts = All-append (IsPostOf number in_round) posted posts s.posts (posts_are f number (n + 1) in_round limit more posts answer v);
   busy = All-same (IsBusy (noted ++ more)) new.busy.items (old.busy.items ++ busy_of (n + 1) answer) l.busy
       (All-append (IsBusy (noted ++ more)) old.busy.items (busy_of (n + 1) answer)
       (All-weaker (IsBusy noted) (IsBusy (noted ++ more)) (λ b i. Contains-append_left noted more (Met b.var b.by) i) old.busy.items s.busy)
-      (busy_here f number (n + 1) in_round limit noted more posted posts answer v.cause));
+      (busy_here f number (n + 1) in_round limit noted more posted posts answer see));
   late = All-same (IsLate (noted ++ more)) new.late.items (old.late.items ++ late_of (n + 1) answer) l.late
       (All-append (IsLate (noted ++ more)) old.late.items (late_of (n + 1) answer)
       (All-weaker (IsLate noted) (IsLate (noted ++ more)) (λ b i. Contains-append_left noted more (MetTurn b.by) i) old.late.items s.late)
-      (late_here f number (n + 1) in_round limit noted more posted posts answer v.cause));
+      (late_here f number (n + 1) in_round limit noted more posted posts answer see));
   wide = All-same (IsWide limit (noted ++ more)) new.wide.items (old.wide.items ++ wide_of (n + 1) answer) l.wide
       (All-append (IsWide limit (noted ++ more)) old.wide.items (wide_of (n + 1) answer)
       (All-weaker (IsWide limit noted) (IsWide limit (noted ++ more)) (λ w h. (h.0, Contains-append_left noted more (Got w.at h.0) h.1, h.2, h.3)) old.wide.items s.wide)
-      (wide_here f number (n + 1) in_round limit noted more posted posts answer v.cause));
+      (wide_here f number (n + 1) in_round limit noted more posted posts answer see));
   accounted = λ x i. elim (Contains-push_cases old.taken.items (n + 1) x (subst (λ (xs : List ℕ). Contains xs x) l.taken i)) [
     | inl j ↦ elim (s.accounted x j) [
       | inl a ↦ inl (account_later f number (n + 1) in_round limit noted more posted posts answer old new x l a)
       | inr e ↦ absurd (none_some old.stopped e.1.0 unstopped e.1.1)
     ]
     | inr e ↦ subst (λ z. IsAccounted f (noted ++ more) (posted ++ posts) new z ⊎ (IsLast z new.taken.items × ((stop : Stop) × (new.stopped ≡ Some stop)))) e
-        (account_here f number (n + 1) in_round limit noted more posted posts answer old new v.cause l)
+        (account_here f number (n + 1) in_round limit noted more posted posts answer old new see l)
   ];
   stopped = λ stop e. subst (λ (xs : List ℕ). IsStopped f (noted ++ more) (posted ++ posts) xs stop) (sym l.taken)
-      (stopped_here f number (n + 1) in_round limit noted more posted posts answer stop old.taken.items old.stopped new.stopped v.cause unstopped l.stopped e);
+      (stopped_here f number (n + 1) in_round limit noted more posted posts answer stop old.taken.items old.stopped new.stopped see unstopped l.stopped e);
 }
 
 -- a shift under way: what was noted, posted and drawn, and what is listed of it

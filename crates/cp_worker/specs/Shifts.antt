@@ -1,16 +1,35 @@
 -- A shift: the visits of one worker in one round.
-use Rattle.std.specs.Prelude.{◌≡◌, ◌⊎◌, ℕ, ◌+◌, ◌<◌, Some, List, [], ◌∷◌, map, length, ◌++◌}
+use Rattle.std.specs.Prelude.{◌≡◌, ◌⊎◌, ℕ, ◌+◌, ◌<◌, Option, Some, None, List, [], ◌∷◌, map, length, ◌++◌}
 use Rattle.std.specs.List.{All, Contains}
 use Rattle.cp_logic.specs.declared.named.Named.{Named}
 use Rattle.cp_logic.specs.declared.settings.Stop.{Stop}
 use Rattle.cp_logic.specs.Formulas.{neighbourhood}
+use Rattle.cp_logic.specs.Entries.{Entry}
+use Rattle.cp_logic.specs.Legality.{first_in}
 use Rattle.cp_logic.specs.Journals.{Post}
-use Rattle.cp_yard.specs.Views.{Base, Note, Got, Met, MetTurn}
+use Rattle.cp_yard.specs.Views.{Base, Note, Got, GotTurn, Met, MetTurn}
+use Rattle.cp_hood.specs.Seats.{EndWith}
+use Rattle.cp_hood.specs.Commits.{IsStopAfter}
 use Rattle.cp_worker.specs.declared.lists.BusyAt.{BusyAt}
 use Rattle.cp_worker.specs.declared.lists.LateAt.{LateAt}
 use Rattle.cp_worker.specs.declared.lists.WideAt.{WideAt}
 use Rattle.cp_worker.specs.declared.lists.WorkerShift.{WorkerShift}
-use Rattle.cp_worker.specs.Visits.{positions, IsPostOf, IsSettled, EndsStopped}
+use Rattle.cp_worker.specs.Visits.{positions, clauses_after, IsPostOf}
+
+-- x was got with some clauses, and among those, after these posts, the search gives this
+abbrev pub Gives : Base → ℕ → List Note → List (ℕ × Post) → Option Entry → Type 0
+Gives f x noted posted found =
+    (before : List Note) × (cs : List Named) × (more : List Note)
+    × (noted ≡ before ++ Got x cs ∷ more) × (first_in (clauses_after x cs posted) f.rules 1 x ≡ found)
+
+-- and there, after these posts, nothing applies
+abbrev pub IsSettled : Base → ℕ → List Note → List (ℕ × Post) → Type 0
+IsSettled f x noted posted = Gives f x noted posted None
+
+-- the turn was got last, and the entry that the search gave was refused there, for this reason
+abbrev pub EndsStopped : Base → ℕ → List Note → List (ℕ × Post) → Stop → Type 0
+EndsStopped f x noted posted stop =
+    (h : List Post) × (e : Entry) × EndWith (GotTurn h) noted × Gives f x noted posted (Some e) × IsStopAfter f h e stop
 
 -- the candidates of the numbers drawn: variables are counted from 1
 abbrev pub candidates_of : List ℕ → List ℕ

@@ -1,18 +1,25 @@
--- A visit: all that a worker does at one candidate.
-use Rattle.std.specs.Prelude.{◌≡◌, ℕ, ◌<◌, Option, Some, None, List, [], ◌∷◌, ◌++◌, map, length, IsTrue}
-use Rattle.std.specs.List.{All}
+-- A visit: all that a worker does at one candidate. It tries the neighbourhood until a try meets no held lock, at most three times, and under
+-- its locks posts what the search gives, with at most 64 tries of the turn for each post.
+use Rattle.std.specs.Prelude.{◌≡◌, ℕ, ◌+◌, ◌<◌, Some, None, List, [], ◌∷◌, ◌++◌, map, length, IsTrue}
+use Rattle.std.specs.List.{flat_map, All}
 use Rattle.cp_logic.specs.declared.named.Named.{Named}
-use Rattle.cp_logic.specs.declared.settings.Stop.{Stop}
-use Rattle.cp_logic.specs.Formulas.{neighbourhood}
 use Rattle.cp_logic.specs.Entries.{Entry, is_at}
 use Rattle.cp_logic.specs.Legality.{first_in}
 use Rattle.cp_logic.specs.Journals.{Post}
 use Rattle.cp_logic.specs.Locality.{after}
-use Rattle.cp_yard.specs.Views.{Base, Note, Got, GotTurn, Met, MetTurn}
-use Rattle.cp_hood.specs.Seats.{EndWith}
-use Rattle.cp_hood.specs.Commits.{IsStopAfter}
+use Rattle.cp_yard.specs.Views.{Base, Note}
+use Rattle.cp_hood.specs.Hoods.{HoodView, centre_clauses}
+use Rattle.cp_hood.specs.Tries.{IsWhole, IsCut, IsTooWide}
+use Rattle.cp_hood.specs.Commits.{IsStopAfter, GetsTurn, MeetsTurn}
 use Rattle.cp_worker.specs.declared.answer.AtAnswer.{AtAnswer}
 use Rattle.cp_worker.specs.declared.answer.AtAnswer.TheVariants.{Settled, Busy, Wide, TurnHeld, Stopped}
+
+-- how often the neighbourhood is tried, and for each entry the turn
+abbrev pub hood_tries : ℕ
+hood_tries = 3
+
+abbrev pub turn_tries : ℕ
+turn_tries = 64
 
 -- the positions of posts
 abbrev pub positions : List (ℕ × Post) → List ℕ
@@ -35,40 +42,65 @@ abbrev pub clauses_after : ℕ → List Named → List (ℕ × Post) → List Na
 clauses_after x cs [] = cs
 clauses_after x cs (q ∷ qs) = clauses_after x (after cs x q.1.entry) qs
 
--- x was got with some clauses, and among those, after these posts, the search gives this
-abbrev pub Gives : Base → ℕ → List Note → List (ℕ × Post) → Option Entry → Type 0
-Gives f x noted posted found =
-    (before : List Note) × (cs : List Named) × (more : List Note)
-    × (noted ≡ before ++ Got x cs ∷ more) × (first_in (clauses_after x cs posted) f.rules 1 x ≡ found)
+-- ---- under the locks
 
--- and there, after these posts, nothing applies
-abbrev pub IsSettled : Base → ℕ → List Note → List (ℕ × Post) → Type 0
-IsSettled f x noted posted = Gives f x noted posted None
+-- for each of the posts the turn was got, with the journal at whose end it stands
+abbrev pub AreTurns : List (ℕ × Post) → List Note → Type 0
+AreTurns [] noted = noted ≡ []
+AreTurns (q ∷ qs) noted = (h : List Post) × (first rest : List Note) × (noted ≡ first ++ rest) × GetsTurn turn_tries first h × (q.0 ≡ length h) × AreTurns qs rest
 
--- x was got last, and its neighbourhood has this many variables, more than the limit
-abbrev pub EndsTooWide : ℕ → ℕ → List Note → ℕ → Type 0
-EndsTooWide x limit noted count = (cs : List Named) × EndWith (Got x cs) noted × (count ≡ length (neighbourhood cs x)) × (limit < count)
+-- Why the posts end at x, which had these clauses: the search gives nothing; or for the entry that it gives the turn was held at each try, or was
+-- got, and the entry refused.
+abbrev pub HasCause : Base → ℕ → List Named → List Note → List (ℕ × Post) → AtAnswer → Type 0
+HasCause f x cs noted posted (Settled commits) = AreTurns posted noted × (first_in (clauses_after x cs posted) f.rules 1 x ≡ None)
+HasCause f x cs noted posted (Busy var by) = ⊥
+HasCause f x cs noted posted (Wide count) = ⊥
+HasCause f x cs noted posted (TurnHeld by commits) =
+    (e : Entry) × (turns last : List Note) × (noted ≡ turns ++ last) × AreTurns posted turns × MeetsTurn turn_tries last by
+    × (first_in (clauses_after x cs posted) f.rules 1 x ≡ Some e)
+HasCause f x cs noted posted (Stopped stop commits) =
+    (e : Entry) × (h : List Post) × (turns last : List Note) × (noted ≡ turns ++ last) × AreTurns posted turns × GetsTurn turn_tries last h
+    × (first_in (clauses_after x cs posted) f.rules 1 x ≡ Some e) × IsStopAfter f h e stop
 
--- the turn was met last, with this seat, for an entry that the search gave
-abbrev pub EndsLate : Base → ℕ → List Note → List (ℕ × Post) → ℕ → Type 0
-EndsLate f x noted posted by = (e : Entry) × EndWith (MetTurn by) noted × Gives f x noted posted (Some e)
-
--- the turn was got last, and the entry that the search gave was refused there, for this reason
-abbrev pub EndsStopped : Base → ℕ → List Note → List (ℕ × Post) → Stop → Type 0
-EndsStopped f x noted posted stop =
-    (h : List Post) × (e : Entry) × EndWith (GotTurn h) noted × Gives f x noted posted (Some e) × IsStopAfter f h e stop
-
--- why the visit ended so
-abbrev pub HasCause : Base → ℕ → ℕ → List Note → List (ℕ × Post) → AtAnswer → Type 0
-HasCause f x limit noted posted (Settled commits) = IsSettled f x noted posted
-HasCause f x limit noted posted (Busy var by) = EndWith (Met var by) noted
-HasCause f x limit noted posted (Wide count) = EndsTooWide x limit noted count
-HasCause f x limit noted posted (TurnHeld by commits) = EndsLate f x noted posted by
-HasCause f x limit noted posted (Stopped stop commits) = EndsStopped f x noted posted stop
-
--- what a visit of x in the round comes to: the posts are the worker's, at x, and the answer lists them and says why it ended
-pub record IsVisit (f : Base) (worker x round limit : ℕ) (noted : List Note) (posted : List (ℕ × Post)) (answer : AtAnswer) : Type 0 where
+-- the posts under the locks are the worker's, at x, and the answer lists them and says why they end
+pub record AreCommits (f : Base) (worker x round : ℕ) (cs : List Named) (noted : List Note) (posted : List (ℕ × Post)) (answer : AtAnswer) : Type 0 where
   pub commits : commits_of answer ≡ positions posted
   pub posts : All (IsPostOf worker round) posted
   pub at : All (λ q. IsTrue (is_at x q.1.entry)) posted
-  pub cause : HasCause f x limit noted posted answer
+  pub cause : HasCause f x cs noted posted answer
+
+-- ---- the whole visit
+
+-- a try of the neighbourhood of x that met a held lock
+abbrev pub IsHeld : ℕ → ℕ → List Note → Type 0
+IsHeld x limit notes = (var by : ℕ) × IsCut x limit notes var by
+
+-- the notes of tries
+abbrev pub notes_of : List (List Note) → List Note
+notes_of tries = flat_map (λ t. t) tries
+
+-- the whole neighbourhood was got, which is within the limit, and this was done under its locks
+abbrev pub EndsLocked : Base → ℕ → ℕ → ℕ → ℕ → List Note → List Note → List (ℕ × Post) → AtAnswer → Type 0
+EndsLocked f worker x round limit last noted posted answer =
+    (h : HoodView) × IsWhole x limit last h × AreCommits f worker x round (centre_clauses h) noted posted answer
+
+-- how a visit ends after so many tries that met a held lock and the last one, and what was noted and posted after it
+abbrev pub EndsVisit : Base → ℕ → ℕ → ℕ → ℕ → ℕ → List Note → List Note → List (ℕ × Post) → AtAnswer → Type 0
+EndsVisit f worker x round limit held last noted posted (Settled commits) = EndsLocked f worker x round limit last noted posted (Settled commits)
+EndsVisit f worker x round limit held last noted posted (Busy var by) =
+    (held + 1 ≡ hood_tries) × IsCut x limit last var by × (noted ≡ []) × (posted ≡ [])
+EndsVisit f worker x round limit held last noted posted (Wide count) = IsTooWide x limit last count × (noted ≡ []) × (posted ≡ [])
+EndsVisit f worker x round limit held last noted posted (TurnHeld by commits) =
+    EndsLocked f worker x round limit last noted posted (TurnHeld by commits)
+EndsVisit f worker x round limit held last noted posted (Stopped stop commits) =
+    EndsLocked f worker x round limit last noted posted (Stopped stop commits)
+
+-- what a visit of x in the round comes to: the tries that met a held lock, the last one, and what came of it
+pub record IsVisit (f : Base) (worker x round limit : ℕ) (noted : List Note) (posted : List (ℕ × Post)) (answer : AtAnswer) : Type 0 where
+  pub held : List (List Note)
+  pub last : List Note
+  pub later : List Note
+  pub notes : noted ≡ notes_of held ++ (last ++ later)
+  pub few : length held < hood_tries
+  pub each : All (IsHeld x limit) held
+  pub ended : EndsVisit f worker x round limit (length held) last later posted answer

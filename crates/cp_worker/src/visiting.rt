@@ -2,15 +2,16 @@
 //!
 //! A refused try holds nothing, and after three the candidate is left: the back-off of the rounds, which never waits. Under a whole
 //! neighbourhood the worker searches the candidate's cell and commits what it finds, until the search gives nothing.
-ghost use Rattle.std.specs.Prelude.{◌≡◌, ◌≤◌, ◌∷◌, ◌++◌, [], ℕ, List, IfOk, IfErr, OnOk, OnErr};
+ghost use Rattle.std.specs.Prelude.{◌≡◌, ◌≤◌, ◌++◌, [], ℕ, List, length, IfOk, IfErr, OnOk, OnErr};
+ghost use Rattle.std.specs.List.{All};
 ghost use Rattle.cp_logic.specs.Journals.{Post};
 ghost use Rattle.cp_logic.specs.Views.{entry_of};
-ghost use Rattle.cp_yard.specs.Views.{Note, Got};
+ghost use Rattle.cp_yard.specs.Views.{Note};
 ghost use Rattle.cp_hood.specs.Hoods.{HoldsJust, IsIdle, IsLegalAt, centre_clauses};
 ghost use Rattle.cp_hood.specs.Seats.{GoesOn};
 ghost use Rattle.cp_hood.specs.Tries.{IsTry};
-ghost use Rattle.cp_worker.specs.Visits.{IsVisit, commits_of};
-ghost use Rattle.cp_worker.specs.Posting.{HasPosted, IsRefusal, IsCauseOf, IsLeft};
+ghost use Rattle.cp_worker.specs.Visits.{AreCommits, IsHeld, IsVisit, commits_of, notes_of};
+ghost use Rattle.cp_worker.specs.Posting.{HasPosted, IsRefusal, IsCauseOf, IsEnough, IsLeft};
 
 use crate::answer::AtAnswer;
 use crate::gate::{Gate, GateEvent};
@@ -80,7 +81,7 @@ fn try_again(
     requires high { x ≤ yard.now.base.formula.variables }
     requires idle { IsIdle seat.old.view }
     ensures table { seat.new.table ≡ seat.old.table }
-    ensures tries { (before last : List Note) × GoesOn seat.old.view seat.new.view (before ++ last) [] × IsTry x limit last result }
+    ensures tries { (held : List (List Note)) × (last : List Note) × GoesOn seat.old.view seat.new.view (notes_of held ++ last) [] × All (IsHeld x limit) held × IsTry x limit last result × IsEnough (length held) result }
     ensures holds { IfOk result (λ h. HoldsJust seat.new.view h.cells) }
     ensures idle { OnErr result (IsIdle seat.new.view) }
 {
@@ -109,7 +110,7 @@ fn visit_under<G: Gate>(
     requires rules { opts.now.rules ≡ yard.now.base.rules }
     requires holds { HoldsJust seat.old.view hood.cells }
     ensures table { seat.new.table ≡ seat.old.table }
-    ensures visit { (noted : List Note) × (posted : List (ℕ × Post)) × GoesOn seat.old.view seat.new.view noted posted × ((limit : ℕ) (before more : List Note) → IfOk result (IsVisit seat.old.view.base seat.old.view.number hood.centre round limit (before ++ Got hood.centre (centre_clauses hood) ∷ (more ++ noted)) posted)) }
+    ensures visit { (noted : List Note) × (posted : List (ℕ × Post)) × GoesOn seat.old.view seat.new.view noted posted × IfOk result (AreCommits seat.old.view.base seat.old.view.number hood.centre round (centre_clauses hood) noted posted) }
     ensures idle { IsIdle seat.new.view }
 {
     let mut hood = hood;
@@ -121,7 +122,7 @@ fn visit_under<G: Gate>(
     answer
 }
 
-// Posts what the search at the centre gives, until it gives nothing or an entry is refused. What was noted before has the centre.
+// Posts what the search at the centre gives, until it gives nothing or an entry is refused.
 fn commit_all(
     alloc: Global,
     yard: &Yard,
@@ -135,7 +136,7 @@ fn commit_all(
     requires rules { rules.now ≡ yard.now.base.rules }
     requires holds { HoldsJust seat.old.view hood.old.cells }
     ensures table { seat.new.table ≡ seat.old.table }
-    ensures visit { (noted : List Note) × (posted : List (ℕ × Post)) × GoesOn seat.old.view seat.new.view noted posted × ((limit : ℕ) (before more : List Note) → IfOk result (IsVisit seat.old.view.base seat.old.view.number hood.old.centre round limit (before ++ Got hood.old.centre (centre_clauses hood.old) ∷ (more ++ noted)) posted)) }
+    ensures visit { (noted : List Note) × (posted : List (ℕ × Post)) × GoesOn seat.old.view seat.new.view noted posted × IfOk result (AreCommits seat.old.view.base seat.old.view.number hood.old.centre round (centre_clauses hood.old) noted posted) }
     ensures holds { HoldsJust seat.new.view hood.new.cells }
 {
     let mut commits = Positions::new(alloc);
@@ -162,7 +163,7 @@ fn commit_listed(
     requires holds { HoldsJust seat.old.view hood.old.cells }
     requires legal { IsLegalAt yard.now.base.rules hood.old (entry_of entry) }
     ensures table { seat.new.table ≡ seat.old.table }
-    ensures post { (noted : List Note) × (posted : List (ℕ × Post)) × GoesOn seat.old.view seat.new.view noted posted × OnOk result (HasPosted seat.old.view.base seat.old.view.number round (entry_of entry) hood.old hood.new commits.old.items commits.new.items posted) × IfErr result (λ answer. (posted ≡ []) × IsRefusal seat.old.view.base (entry_of entry) noted answer) }
+    ensures post { (noted : List Note) × (posted : List (ℕ × Post)) × GoesOn seat.old.view seat.new.view noted posted × OnOk result (HasPosted seat.old.view.base seat.old.view.number round (entry_of entry) hood.old hood.new commits.old.items commits.new.items noted posted) × IfErr result (λ answer. (posted ≡ []) × IsRefusal seat.old.view.base (entry_of entry) noted answer) }
     ensures same { OnErr result (commits.new.items ≡ commits.old.items) }
     ensures holds { HoldsJust seat.new.view hood.new.cells }
 {

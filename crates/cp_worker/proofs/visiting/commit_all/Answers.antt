@@ -1,12 +1,12 @@
-use Rattle.std.proofs.Common.{◌≡◌, ◌∙◌, ◌++◌, ◌∷◌, Some, None, refl, sym, ap}
+use Rattle.std.proofs.Common.{◌≡◌, ◌∙◌, ◌++◌, Some, None, refl, sym, ap}
 use Rattle.std.specs.Option.{option_map}
 use Rattle.std.proofs.lemmas.Result.{IfOk-weaker}
 use Rattle.cp_logic.specs.Legality.{first_in}
 use Rattle.cp_logic.specs.Views.{entry_of}
-use Rattle.cp_yard.specs.Views.{Base, Got}
+use Rattle.cp_yard.specs.Views.{Base}
 use Rattle.cp_hood.specs.Hoods.{centre_clauses}
 use Rattle.cp_hood.specs.Commits.{left_by}
-use Rattle.cp_worker.specs.Visits.{IsVisit, commits_of}
+use Rattle.cp_worker.specs.Visits.{AreCommits, commits_of}
 use Rattle.cp_worker.specs.Posting.{IsCauseOf}
 use Rattle.cp_worker.proofs.Centres.{found-at, legal-found, centre-smaller}
 use Rattle.cp_worker.proofs.Commits.{begins, goes_on, settles, refuses, refused-goes}
@@ -59,9 +59,9 @@ returns-in-Err-clause-visit c =
       i.going.noted ++ k.0,
       i.going.posted,
       refused-goes v c.commits.seat.view c.commit_listed.new.seat.view x c.args.round cs (centre_clauses c.commits.hood) c.commits.commits.items k.0 k.1 i.going k.2 k.4.0,
-      λ limit before more. IfOk-weaker c.refused.result (λ a. (commits_of a ≡ c.commit_listed.new.commits.items) × IsCauseOf c.in-Err.answer a)
-          (IsVisit v.base v.number x c.args.round limit (before ++ Got x cs ∷ (more ++ (i.going.noted ++ k.0))) i.going.posted)
-          (λ a h. refuses v c.commits.seat.view x c.args.round limit cs (centre_clauses c.commits.hood) c.commits.commits.items before more k.0 i.going e c.in-Err.answer a found k.4.1 (h.0 ∙ c.in-Err.ensures.same) h.1)
+      IfOk-weaker c.refused.result (λ a. (commits_of a ≡ c.commit_listed.new.commits.items) × IsCauseOf c.in-Err.answer a)
+          (AreCommits v.base v.number x c.args.round cs (i.going.noted ++ k.0) i.going.posted)
+          (λ a h. refuses v c.commits.seat.view x c.args.round cs (centre_clauses c.commits.hood) c.commits.commits.items k.0 i.going e c.in-Err.answer a found k.4.1 (h.0 ∙ c.in-Err.ensures.same) h.1)
           c.refused.ensures,
     )
 
@@ -74,6 +74,6 @@ returns-clause-visit c =
       i.going.noted,
       i.going.posted,
       i.going.goes,
-      λ limit before more. settles v c.commits.seat.view c.args.hood.now.centre c.args.round limit (centre_clauses c.args.hood.now) (centre_clauses c.commits.hood) c.commits.commits before more i.going
+      settles v c.commits.seat.view c.args.hood.now.centre c.args.round (centre_clauses c.args.hood.now) (centre_clauses c.commits.hood) c.commits.commits i.going
           (ap (λ z. first_in (centre_clauses c.commits.hood) v.base.rules 1 z) (sym i.centre) ∙ none),
     )

@@ -21,6 +21,7 @@ returns-clause-post c =
       k.2,
       record {
         before = k.3.0;
+        turn = k.3.1;
         post = k.3.3;
         hood = after-prepared (post_after v.base k.3.0 v.number c.args.round (entry_of c.args.entry)).entry c.args.hood.now c.prepare.new.self c.commit.new.hood c.prepare.ensures.same k.3.4;
         position = c.push_reserved.ensures.items ∙ ap (λ (ns : List ℕ). ns ++ c.in_ok-receipt.receipt.position ∷ []) c.reserve.ensures.items
