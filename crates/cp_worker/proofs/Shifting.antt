@@ -1,7 +1,8 @@
 -- A shift, visit by visit.
 use Rattle.std.proofs.Common.{◌≡◌, ℕ, ◌+◌, Bool, false, List, [], ◌∷◌, ◌++◌, append_assoc, append-nil, Option, Some, None, inl, inr, refl, sym, ◌∙◌, ap, subst}
 use Rattle.std.specs.Prelude.{◌⊎◌, is_some}
-use Rattle.std.specs.List.{All, Contains}
+use Rattle.std.specs.List.{flat_map, All, Contains}
+use Rattle.std.proofs.lemmas.Grind.{flat_map-append}
 use Rattle.std.proofs.lemmas.Bool.{false≢true}
 use Rattle.std.proofs.lemmas.List.{map-append}
 use Rattle.std.proofs.lemmas.List.Elements.{All-nil, All-cons, All-append, All-weaker, All-same, Contains-append_left, Contains-append_right, Contains-push, Contains-push_cases}
@@ -106,6 +107,10 @@ module _ (f : Base) (number x in_round limit : ℕ) (noted more : List Note) (po
         settled_later y own s,
       )))
 
+-- what one visit more lists
+all_more : {A : Type 0} (f : ℕ × AtAnswer → List A) (visits : List (ℕ × AtAnswer)) (v : ℕ × AtAnswer) → flat_map f visits ++ f v ≡ flat_map f (visits ++ v ∷ [])
+all_more f visits v = ap (λ xs. flat_map f visits ++ xs) (sym (append-nil (f v))) ∙ sym (flat_map-append f visits (v ∷ []))
+
 -- nothing was drawn yet
 pub starts-shift : (f : Base) (number in_round limit : ℕ) (s : WorkerShift) → s.worker ≡ number → s.round ≡ in_round → s.taken.items ≡ [] → s.commits.items ≡ [] → s.busy.items ≡ [] → s.late.items ≡ []
     → s.wide.items ≡ [] → s.stopped ≡ None → IsShift f number in_round limit [] [] [] s
@@ -113,6 +118,11 @@ starts-shift f number in_round limit s w r t c b l d n = record {
   worker = w;
   round = r;
   taken = t;
+  visits = [];
+  visited = t;
+  busy_are = b;
+  late_are = l;
+  wide_are = d;
   commits = c;
   posts = All-nil (IsPostOf number in_round);
   busy = All-same (IsBusy []) s.busy.items [] b (All-nil (IsBusy []));
@@ -130,6 +140,11 @@ visits-more f number in_round limit noted more posted posts drawn n answer old n
   worker = l.worker ∙ s.worker;
   round = l.round ∙ s.round;
   taken = l.taken ∙ ap (λ (xs : List ℕ). xs ++ (n + 1) ∷ []) s.taken ∙ sym (map-append (λ k. k + 1) drawn (n ∷ []));
+  visits = s.visits ++ (n + 1, answer) ∷ [];
+  visited = l.taken ∙ ap (λ (xs : List ℕ). xs ++ (n + 1) ∷ []) s.visited ∙ sym (map-append (λ (v : ℕ × AtAnswer). v.0) s.visits ((n + 1, answer) ∷ []));
+  busy_are = l.busy ∙ ap (λ (bs : List BusyAt). bs ++ busy_of (n + 1) answer) s.busy_are ∙ all_more (λ v. busy_of v.0 v.1) s.visits (n + 1, answer);
+  late_are = l.late ∙ ap (λ (bs : List LateAt). bs ++ late_of (n + 1) answer) s.late_are ∙ all_more (λ v. late_of v.0 v.1) s.visits (n + 1, answer);
+  wide_are = l.wide ∙ ap (λ (bs : List WideAt). bs ++ wide_of (n + 1) answer) s.wide_are ∙ all_more (λ v. wide_of v.0 v.1) s.visits (n + 1, answer);
   commits = l.commits ∙ ap (λ (ns : List ℕ). ns ++ commits_of answer) s.commits ∙ ap (λ (ns : List ℕ). positions posted ++ ns) (commits_are f number (n + 1) in_round limit more posts answer v)
       ∙ sym (map-append (λ (q : ℕ × Post). q.0) posted posts);
   posts = All-append (IsPostOf number in_round) posted posts s.posts (posts_are f number (n + 1) in_round limit more posts answer v);

@@ -1,6 +1,6 @@
 -- A shift: the visits of one worker in one round.
 use Rattle.std.specs.Prelude.{◌≡◌, ◌⊎◌, ℕ, ◌+◌, ◌<◌, Option, Some, None, List, [], ◌∷◌, map, length, ◌++◌}
-use Rattle.std.specs.List.{All, Contains}
+use Rattle.std.specs.List.{flat_map, All, Contains}
 use Rattle.cp_logic.specs.declared.named.Named.{Named}
 use Rattle.cp_logic.specs.declared.settings.Stop.{Stop}
 use Rattle.cp_logic.specs.Formulas.{neighbourhood}
@@ -10,11 +10,13 @@ use Rattle.cp_logic.specs.Journals.{Post}
 use Rattle.cp_yard.specs.Views.{Base, Note, Got, GotTurn, Met, MetTurn}
 use Rattle.cp_hood.specs.Seats.{EndWith}
 use Rattle.cp_hood.specs.Commits.{IsStopAfter}
+use Rattle.cp_worker.specs.declared.answer.AtAnswer.{AtAnswer}
 use Rattle.cp_worker.specs.declared.lists.BusyAt.{BusyAt}
 use Rattle.cp_worker.specs.declared.lists.LateAt.{LateAt}
 use Rattle.cp_worker.specs.declared.lists.WideAt.{WideAt}
 use Rattle.cp_worker.specs.declared.lists.WorkerShift.{WorkerShift}
 use Rattle.cp_worker.specs.Visits.{positions, clauses_after, IsPostOf}
+use Rattle.cp_worker.specs.Listing.{busy_of, late_of, wide_of}
 
 -- x was got with some clauses, and among those, after these posts, the search gives this
 abbrev pub Gives : Base → ℕ → List Note → List (ℕ × Post) → Option Entry → Type 0
@@ -61,11 +63,17 @@ abbrev pub IsStopped : Base → List Note → List (ℕ × Post) → List ℕ �
 IsStopped f noted posted taken stop =
     (x : ℕ) × IsLast x taken × ((before own : List (ℕ × Post)) × (posted ≡ before ++ own) × EndsStopped f x noted own stop)
 
--- what a shift of the worker in the round comes to, with the numbers that it drew
+-- what a shift of the worker in the round comes to, with the numbers that it drew. The candidates stand with the answers of their visits, and the
+-- lists are those of the answers, in this order
 pub record IsShift (f : Base) (number in_round limit : ℕ) (noted : List Note) (posted : List (ℕ × Post)) (drawn : List ℕ) (s : WorkerShift) : Type 0 where
   pub worker : s.worker ≡ number
   pub round : s.round ≡ in_round
   pub taken : s.taken.items ≡ candidates_of drawn
+  pub visits : List (ℕ × AtAnswer)
+  pub visited : s.taken.items ≡ map (λ v. v.0) visits
+  pub busy_are : s.busy.items ≡ flat_map (λ v. busy_of v.0 v.1) visits
+  pub late_are : s.late.items ≡ flat_map (λ v. late_of v.0 v.1) visits
+  pub wide_are : s.wide.items ≡ flat_map (λ v. wide_of v.0 v.1) visits
   pub commits : s.commits.items ≡ positions posted
   pub posts : All (IsPostOf number in_round) posted
   pub busy : All (IsBusy noted) s.busy.items
