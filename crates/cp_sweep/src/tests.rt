@@ -6,7 +6,7 @@ ghost use Rattle.cp_logic.specs.Literals.{variable_of};
 ghost use Rattle.cp_logic.specs.Entries.{is_look};
 ghost use Rattle.cp_logic.specs.Views.{entry_of};
 
-use crate::{simplify, sweep};
+use crate::{Swept, simplify, sweep};
 use cp_book::Book;
 use cp_logic::{Choice, Clause, Entry, Formula, Journal, Lit, Named, Rules, Stop};
 use cp_occ::Cells;
@@ -74,16 +74,50 @@ fn add(alloc: Global, formula: &mut Formula, codes: &[u8]) -> Result<(), Fail> {
 fn letters_of(alloc: Global, journal: &Journal) -> Result<String, Fail> {
     let mut text = String::new(alloc);
     for post in journal.as_slice() {
-        match &post.entry {
-            Entry::Taut { gone } => write!(text, "t{} ", gone.number)?,
-            Entry::Subsume { by, gone } => write!(text, "s{},{} ", by.number, gone.number)?,
-            Entry::Strengthen { by, on, new, .. } => {
-                write!(text, "x{},{}:{} ", by.number, on.number, new.number)?
-            }
-            _ => text.push_str("? ")?,
-        }
+        push_entry(&mut text, &post.entry)?;
     }
     Ok(text)
+}
+
+// The entry as its letter and the numbers of its clauses, with a space behind it.
+fn push_entry(text: &mut String, entry: &Entry) -> Result<(), Fail> {
+    match entry {
+        Entry::Taut { gone } => write!(text, "t{} ", gone.number)?,
+        Entry::Subsume { by, gone } => write!(text, "s{},{} ", by.number, gone.number)?,
+        Entry::Strengthen { by, on, new, .. } => {
+            write!(text, "x{},{}:{} ", by.number, on.number, new.number)?
+        }
+        _ => text.push_str("? ")?,
+    }
+    Ok(())
+}
+
+// The formula over three variables of these clauses, whose first number is this.
+fn formula_of(alloc: Global, clauses: &[&[u8]], first: u64) -> Result<Formula, Fail>
+    requires low { 1 ≤ first }
+    requires high { first ≤ 2 ^ 40 }
+{
+    let mut formula = Formula::new(alloc, 3, first);
+    for codes in clauses {
+        add(alloc, &mut formula, codes)?;
+    }
+    Ok(formula)
+}
+
+// What a sweep tells: the letters of its posts, how many clauses are left, and its stop.
+fn assert_swept(
+    rt: &impl Abort,
+    alloc: Global,
+    swept: &Swept,
+    posts: &str,
+    left: usize,
+    stop: Option<Stop>,
+) -> Result<(), Fail> {
+    let letters = letters_of(alloc, &swept.journal)?;
+    assert_eq!(rt; letters.as_str(), posts);
+    assert_eq!(rt; swept.formula.len(), left);
+    assert_eq!(rt; swept.stopped, stop);
+    Ok(())
 }
 
 // The codes of the clauses, the budget, and then the posts, the clauses that are left and the stop.
@@ -100,10 +134,7 @@ fn assert_row(rt: &impl Abort, alloc: Global, row: &Row, first: u64) -> Result<(
     requires high { first ≤ 2 ^ 40 }
 {
     let (clauses, budget, posts, left, stop) = row;
-    let mut formula = Formula::new(alloc, 3, first);
-    for codes in *clauses {
-        add(alloc, &mut formula, codes)?;
-    }
+    let formula = formula_of(alloc, *clauses, first)?;
     let rules = Rules {
         choice: CHOICE,
         bound: 0,
@@ -113,10 +144,7 @@ fn assert_row(rt: &impl Abort, alloc: Global, row: &Row, first: u64) -> Result<(
         return Ok(());
     }
     let swept = simplify(alloc, formula, &rules)?;
-    assert_eq!(rt; letters_of(alloc, &swept.journal)?.as_str(), *posts);
-    assert_eq!(rt; swept.formula.len(), *left);
-    assert_eq!(rt; swept.stopped, *stop);
-    Ok(())
+    assert_swept(rt, alloc, &swept, *posts, *left, *stop)
 }
 
 #[test]
@@ -177,10 +205,7 @@ fn subsumption(alloc: Global) -> Result<Entry, AllocError>
 #[test]
 fn a_journal_is_gone_on_from(rt: HostRuntime) -> Result<(), Fail> {
     let clauses: [&[u8]; 4] = [&[2, 3, 4], &[4, 6], &[6, 4], &[6]];
-    let mut formula = Formula::new(rt.alloc(), 3, 1);
-    for codes in &clauses {
-        add(rt.alloc(), &mut formula, codes)?;
-    }
+    let formula = formula_of(rt.alloc(), &clauses, 1)?;
     if formula.next() > 1_099_511_627_776 {
         return Ok(());
     }
@@ -195,8 +220,5 @@ fn a_journal_is_gone_on_from(rt: HostRuntime) -> Result<(), Fail> {
     assert!(rt; book.post(1, 1, entry).is_ok());
     let cells = Cells::of_formula(rt.alloc(), book.clauses())?;
     let swept = sweep(rt.alloc(), Ground { book, cells })?;
-    let letters = letters_of(rt.alloc(), &swept.journal)?;
-    assert_eq!(rt; letters.as_str(), "s4,2 t1 s4,3 ");
-    assert_eq!(rt; (swept.formula.len(), swept.stopped), (1, None));
-    Ok(())
+    assert_swept(&rt, rt.alloc(), &swept, "s4,2 t1 s4,3 ", 1, None)
 }
