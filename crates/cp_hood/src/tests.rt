@@ -84,6 +84,15 @@ fn try_one(alloc: Global, yard: &Yard, seat: &mut Seat, limit: u32) -> Result<Ho
     try_hood(alloc, yard, seat, 1, limit)
 }
 
+fn assert_answer(rt: &impl Abort, answer: HoodAnswer, want: HoodAnswer) {
+    assert_eq!(rt; answer, want);
+}
+
+// The variable of the centre, and the number of its clauses.
+fn assert_centre(rt: &impl Abort, hood: &Hood, want: (u32, usize)) {
+    assert_eq!(rt; (hood.centre().var(), hood.centre().len()), want);
+}
+
 #[test]
 fn a_refused_try_holds_nothing(rt: HostRuntime) -> Result<(), Fail> {
     let formula = formula_of(rt.alloc(), 1, false)?;
@@ -96,7 +105,7 @@ fn a_refused_try_holds_nothing(rt: HostRuntime) -> Result<(), Fail> {
     let Err(answer) = try_one(rt.alloc(), &yard, &mut first, 512) else {
         panic!(rt; "the second seat holds 3");
     };
-    assert_eq!(rt; answer, HoodAnswer::Busy { var: 3, by: 2 });
+    assert_answer(&rt, answer, HoodAnswer::Busy { var: 3, by: 2 });
     let Ok(one) = yard.try_lock(&mut second, 1) else {
         panic!(rt; "the lock of 1 is free again");
     };
@@ -109,7 +118,7 @@ fn a_refused_try_holds_nothing(rt: HostRuntime) -> Result<(), Fail> {
     let Ok(hood) = try_one(rt.alloc(), &yard, &mut first, 512) else {
         panic!(rt; "all locks are free");
     };
-    assert_eq!(rt; (hood.centre().var(), hood.centre().len()), (1, 2));
+    assert_centre(&rt, &hood, (1, 2));
     release(&yard, &mut first, hood);
     Ok(())
 }
@@ -121,7 +130,7 @@ fn a_neighbourhood_above_the_limit_is_not_locked(rt: HostRuntime) -> Result<(), 
     let Err(answer) = try_one(rt.alloc(), &yard, &mut zero, 2) else {
         panic!(rt; "the neighbourhood has three variables");
     };
-    assert_eq!(rt; answer, HoodAnswer::Wide { count: 3 });
+    assert_answer(&rt, answer, HoodAnswer::Wide { count: 3 });
     let Ok(hood) = try_one(rt.alloc(), &yard, &mut zero, 3) else {
         panic!(rt; "three are within the limit");
     };
@@ -313,6 +322,21 @@ fn two_seats(alloc: Global) -> Result<(Yard, Seat, Seat), AllocError>
     Ok((yard, first, second))
 }
 
+fn assert_how(rt: &impl Abort, how: How, want: How) {
+    assert_eq!(rt; how, want);
+}
+
+fn assert_len(rt: &impl Abort, len: Option<usize>, want: usize) {
+    assert_eq!(rt; len, Some(want));
+}
+
+fn assert_listed(rt: &impl Abort, alloc: Global, hood: &Hood, want: &[(u32, u64)]) {
+    let Ok(list) = listed(alloc, hood) else {
+        panic!(rt; "memory is ample");
+    };
+    assert_eq!(rt; list.as_slice(), want);
+}
+
 #[test]
 fn a_commit_meets_the_turn_until_it_ends(rt: HostRuntime) -> Result<(), Fail> {
     let alloc = rt.alloc();
@@ -322,21 +346,16 @@ fn a_commit_meets_the_turn_until_it_ends(rt: HostRuntime) -> Result<(), Fail> {
     };
     let answer = CommitAnswer::TurnHeld { by: 2 };
     let met = eliminate_beside(alloc, &yard, &mut first, &mut second, &mut hood)?;
-    assert_eq!(rt; met, How::Refused { answer });
-    let left = listed(alloc, &hood)?;
-    assert_eq!(rt;
-        left.as_slice(),
-        [(1, 1), (1, 2), (2, 1), (3, 2)].as_slice()
-    );
+    assert_how(&rt, met, How::Refused { answer });
+    assert_listed(&rt, alloc, &hood, &[(1, 1), (1, 2), (2, 1), (3, 2)]);
     let posted = eliminate(alloc, &yard, &mut first, &mut hood, 3)?;
-    assert_eq!(rt; posted, How::Posted { position: 0 });
-    let left = listed(alloc, &hood)?;
-    assert_eq!(rt; left.as_slice(), [(2, 3), (3, 3)].as_slice());
-    assert_eq!(rt; journal_len(&yard, &mut second), Some(1));
+    assert_how(&rt, posted, How::Posted { position: 0 });
+    assert_listed(&rt, alloc, &hood, &[(2, 3), (3, 3)]);
+    assert_len(&rt, journal_len(&yard, &mut second), 1);
     let Err(answer) = try_one(alloc, &yard, &mut second, 512) else {
         panic!(rt; "the first seat holds 1");
     };
-    assert_eq!(rt; answer, HoodAnswer::Busy { var: 1, by: 1 });
+    assert_answer(&rt, answer, HoodAnswer::Busy { var: 1, by: 1 });
     release(&yard, &mut first, hood);
     Ok(())
 }
@@ -377,10 +396,14 @@ fn assert_row(rt: &impl Abort, alloc: Global, row: &Row) -> Result<(), AllocErro
     let (first, empty, budget, one, two, len) = *row;
     let formula = formula_of(alloc, first, empty)?;
     let (yard, mut seat) = yard_of(alloc, formula, budget)?;
-    assert_eq!(rt; eliminate_at(alloc, &yard, &mut seat, 1)?, one);
-    assert_eq!(rt; eliminate_at(alloc, &yard, &mut seat, 2)?, two);
-    assert_eq!(rt; journal_len(&yard, &mut seat), Some(len));
+    assert_end(rt, eliminate_at(alloc, &yard, &mut seat, 1)?, one);
+    assert_end(rt, eliminate_at(alloc, &yard, &mut seat, 2)?, two);
+    assert_len(rt, journal_len(&yard, &mut seat), len);
     Ok(())
+}
+
+fn assert_end(rt: &impl Abort, end: (How, bool), want: (How, bool)) {
+    assert_eq!(rt; end, want);
 }
 
 fn posted(position: u64) -> (How, bool) {
