@@ -4,6 +4,7 @@ ghost use Rattle.std.specs.Prelude.{◌≡◌, ◌≤◌, ◌^◌, IfOk, IsFalse
 ghost use Rattle.std.specs.List.{list_all};
 ghost use Rattle.cp_logic.specs.Literals.{variable_of};
 ghost use Rattle.cp_logic.specs.Entries.{is_look};
+ghost use Rattle.cp_logic.specs.Journals.{number_limit};
 ghost use Rattle.cp_logic.specs.Views.{entry_of};
 
 use crate::{Swept, simplify, sweep};
@@ -202,6 +203,25 @@ fn subsumption(alloc: Global) -> Result<Entry, AllocError>
     Ok(Entry::Subsume { by, gone })
 }
 
+fn post_subsumption(rt: &impl Abort, alloc: Global, book: &mut Book) -> Result<(), AllocError>
+    requires { book.old.first.next ≤ number_limit }
+    ensures { book.new.first.next ≤ number_limit }
+{
+    let entry = subsumption(alloc)?;
+    book.prepare(&entry)?;
+    assert!(rt; book.post(1, 1, entry).is_ok());
+    Ok(())
+}
+
+// What a sweep does behind the subsumption.
+fn assert_gone_on(rt: &impl Abort, alloc: Global, book: Book) -> Result<(), Fail>
+    requires { book.first.next ≤ number_limit }
+{
+    let cells = Cells::of_formula(alloc, book.clauses())?;
+    let swept = sweep(alloc, Ground { book, cells })?;
+    assert_swept(rt, alloc, &swept, "s4,2 t1 s4,3 ", 1, None)
+}
+
 #[test]
 fn a_journal_is_gone_on_from(rt: HostRuntime) -> Result<(), Fail> {
     let clauses: [&[u8]; 4] = [&[2, 3, 4], &[4, 6], &[6, 4], &[6]];
@@ -215,10 +235,6 @@ fn a_journal_is_gone_on_from(rt: HostRuntime) -> Result<(), Fail> {
         budget: 0,
     };
     let mut book = Book::new(rt.alloc(), formula, rules)?;
-    let entry = subsumption(rt.alloc())?;
-    book.prepare(&entry)?;
-    assert!(rt; book.post(1, 1, entry).is_ok());
-    let cells = Cells::of_formula(rt.alloc(), book.clauses())?;
-    let swept = sweep(rt.alloc(), Ground { book, cells })?;
-    assert_swept(&rt, rt.alloc(), &swept, "s4,2 t1 s4,3 ", 1, None)
+    post_subsumption(&rt, rt.alloc(), &mut book)?;
+    assert_gone_on(&rt, rt.alloc(), book)
 }
