@@ -3,6 +3,7 @@
 use super::*;
 use cp_logic::{Choice, Form, Opts, Rules};
 use std::alloc::Global;
+use std::process::Abort;
 use std::test::Fail;
 
 // The words of a text with single spaces.
@@ -14,9 +15,41 @@ fn words_of(alloc: Global, text: &str) -> Result<Vec<String>, Fail> {
     Ok(words)
 }
 
+fn assert_simplify(
+    rt: &impl Abort,
+    alloc: Global,
+    text: &str,
+    want: Result<SimplifyOptions<'_>, WordsRefusal>,
+) -> Result<(), Fail> {
+    let words = words_of(alloc, text)?;
+    assert_eq!(rt; read_simplify_words(alloc, &words), want, "at {text}");
+    Ok(())
+}
+
+fn assert_extend(
+    rt: &impl Abort,
+    alloc: Global,
+    text: &str,
+    want: Result<ExtendOptions<'_>, WordsRefusal>,
+) -> Result<(), Fail> {
+    let words = words_of(alloc, text)?;
+    assert_eq!(rt; read_extend_words(alloc, &words), want, "at {text}");
+    Ok(())
+}
+
+fn assert_generate(
+    rt: &impl Abort,
+    alloc: Global,
+    text: &str,
+    want: Result<GenerateOptions<'_>, WordsRefusal>,
+) -> Result<(), Fail> {
+    let words = words_of(alloc, text)?;
+    assert_eq!(rt; read_generate_words(alloc, &words), want, "at {text}");
+    Ok(())
+}
+
 #[test]
 fn simplify_has_defaults(rt: HostRuntime) -> Result<(), Fail> {
-    let words = words_of(rt.alloc(), "simplify")?;
     let choice = Choice {
         t: true,
         s: true,
@@ -42,18 +75,13 @@ fn simplify_has_defaults(rt: HostRuntime) -> Result<(), Fail> {
         proof: "none",
         summary: "none",
     };
-    assert_eq!(rt; read_simplify_words(rt.alloc(), &words), Ok(options));
-    Ok(())
+    assert_simplify(&rt, rt.alloc(), "simplify", Ok(options))
 }
 
 #[test]
 fn simplify_takes_its_options(rt: HostRuntime) -> Result<(), Fail> {
-    let roles = "simplify --cnf a --reduced b --stack c --proof d --summary e --proof-form binary";
-    let mut words = words_of(rt.alloc(), roles)?;
-    let numbers = "--only bx --workers=2 --rounds 3 --hood 1 --bound 1000 --budget 1099511627776";
-    for word in numbers.split(' ') {
-        words.push(String::from_str(rt.alloc(), word)?)?;
-    }
+    let text = "simplify --cnf a --reduced b --stack c --proof d --summary e --proof-form binary \
+                --only bx --workers=2 --rounds 3 --hood 1 --bound 1000 --budget 1099511627776";
     let choice = Choice {
         t: false,
         s: false,
@@ -79,8 +107,7 @@ fn simplify_takes_its_options(rt: HostRuntime) -> Result<(), Fail> {
         proof: "d",
         summary: "e",
     };
-    assert_eq!(rt; read_simplify_words(rt.alloc(), &words), Ok(options));
-    Ok(())
+    assert_simplify(&rt, rt.alloc(), text, Ok(options))
 }
 
 #[test]
@@ -104,54 +131,47 @@ fn simplify_words_are_refused(rt: HostRuntime) -> Result<(), Fail> {
         ("simplify --summary std", UsageKind::Names),
     ];
     for (text, kind) in rows {
-        let words = words_of(rt.alloc(), text)?;
-        let refusal = WordsRefusal::Usage { kind };
-        assert_eq!(rt;
-            read_simplify_words(rt.alloc(), &words),
-            Err(refusal),
-            "at {text}"
-        );
+        assert_simplify(&rt, rt.alloc(), text, Err(WordsRefusal::Usage { kind }))?;
     }
     Ok(())
 }
 
 #[test]
 fn extend_words_are_read(rt: HostRuntime) -> Result<(), Fail> {
-    let words = words_of(rt.alloc(), "extend --stack a")?;
     let options = ExtendOptions {
         stack: "a",
         model: "std",
         full: "std",
     };
-    assert_eq!(rt; read_extend_words(rt.alloc(), &words), Ok(options));
+    assert_extend(&rt, rt.alloc(), "extend --stack a", Ok(options))?;
     let rows = [
         ("simplify", UsageKind::Command),
         ("extend", UsageKind::Words),
         ("extend --stack a --full a", UsageKind::Names),
     ];
     for (text, kind) in rows {
-        let words = words_of(rt.alloc(), text)?;
-        let refusal = WordsRefusal::Usage { kind };
-        assert_eq!(rt;
-            read_extend_words(rt.alloc(), &words),
-            Err(refusal),
-            "at {text}"
-        );
+        assert_extend(&rt, rt.alloc(), text, Err(WordsRefusal::Usage { kind }))?;
     }
+    Ok(())
+}
+
+fn assert_command(rt: &impl Abort, alloc: Global, name: &str, text: &str) -> Result<(), Fail> {
+    let words = words_of(alloc, text)?;
+    assert!(rt; is_command(name, &words));
     Ok(())
 }
 
 #[test]
 fn generate_words_are_read(rt: HostRuntime) -> Result<(), Fail> {
-    let words = words_of(rt.alloc(), "generate --vars 2000000")?;
-    assert!(rt; is_command("generate", &words));
+    let text = "generate --vars 2000000";
+    assert_command(&rt, rt.alloc(), "generate", text)?;
     let options = GenerateOptions {
         seed: 1,
         vars: 2000000,
         clauses: 3000,
         summary: "std",
     };
-    assert_eq!(rt; read_generate_words(rt.alloc(), &words), Ok(options));
+    assert_generate(&rt, rt.alloc(), text, Ok(options))?;
     let rows = [
         ("extend", UsageKind::Command),
         ("generate --seed 2147483648", UsageKind::Words),
@@ -159,13 +179,7 @@ fn generate_words_are_read(rt: HostRuntime) -> Result<(), Fail> {
         ("generate --clauses 8000001", UsageKind::Words),
     ];
     for (text, kind) in rows {
-        let words = words_of(rt.alloc(), text)?;
-        let refusal = WordsRefusal::Usage { kind };
-        assert_eq!(rt;
-            read_generate_words(rt.alloc(), &words),
-            Err(refusal),
-            "at {text}"
-        );
+        assert_generate(&rt, rt.alloc(), text, Err(WordsRefusal::Usage { kind }))?;
     }
     Ok(())
 }
