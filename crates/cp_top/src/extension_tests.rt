@@ -1,4 +1,4 @@
-//! Runs of `extend` over a desk in memory: whole runs, inputs that are refused, failing calls, and words.
+//! Runs of `extend` over a desk in memory: whole runs, inputs that are refused, and words.
 
 ghost use Rattle.std.specs.Prelude.{◌<◌, IfOk};
 ghost use Rattle.cp_io.specs.Port.{NothingBound};
@@ -6,16 +6,16 @@ ghost use Rattle.cp_io.specs.Memory.{memory_port};
 
 use super::*;
 use crate::tests::{assert_status, assert_told, assert_written, words_of};
-use cp_io::{Bytes, FailAt, FailList, Input, Inputs, MemDesk, Role};
+use cp_io::{Bytes, FailList, Input, Inputs, MemDesk, Role};
 use std::alloc::{AllocError, Global};
 use std::process::Abort;
 use std::test::Fail;
 
-const STACK: &[u8] = b"p stack 1 3 3\n1 2 0\n-1 3 0\n2 3 0\n";
+pub(crate) const STACK: &[u8] = b"p stack 1 3 3\n1 2 0\n-1 3 0\n2 3 0\n";
 
-const MODEL: &[u8] = b"c x\ns SATISFIABLE\nv 3\nv 0\n";
+pub(crate) const MODEL: &[u8] = b"c x\ns SATISFIABLE\nv 3\nv 0\n";
 
-const FULL: &[u8] = b"s SATISFIABLE\nv 1 -2 3\nv 0\n";
+pub(crate) const FULL: &[u8] = b"s SATISFIABLE\nv 1 -2 3\nv 0\n";
 
 fn bytes_of(alloc: Global, text: &[u8]) -> Result<Bytes, AllocError> {
     let mut bytes = Bytes::new(alloc);
@@ -50,16 +50,19 @@ fn desk_with(
     MemDesk::new(alloc, inputs, piece, failing)
 }
 
-// The outcome of a run, and the desk.
-fn ran(
+// The outcome of a run in pieces of so many bytes, where these calls fail, and the desk.
+pub(crate) fn ran_with(
     alloc: Global,
     text: &str,
     stack: &[u8],
     model: &[u8],
+    piece: usize,
     failing: FailList,
-) -> Result<(Outcome, MemDesk), Fail> {
+) -> Result<(Outcome, MemDesk), Fail>
+    requires { 0 < piece }
+{
     let words = words_of(alloc, text)?;
-    let mut desk = desk_with(alloc, stack, model, 8, failing)?;
+    let mut desk = desk_with(alloc, stack, model, piece, failing)?;
     let outcome = run_extend(alloc, &words, &mut desk);
     Ok((outcome, desk))
 }
@@ -83,13 +86,13 @@ fn assert_rows(rt: &impl Abort, alloc: Global, rows: &[Row]) -> Result<(), Fail>
 
 fn assert_row(rt: &impl Abort, alloc: Global, row: &Row) -> Result<(), Fail> {
     let (text, stack, model, status, told, full) = *row;
-    let (outcome, desk) = ran(alloc, text, stack, model, FailList::new(alloc))?;
+    let (outcome, desk) = ran_with(alloc, text, stack, model, 8, FailList::new(alloc))?;
     assert_status(rt, &outcome, status);
     assert_written(rt, &desk, Role::Full, full);
     assert_told(rt, alloc, &outcome, told)
 }
 
-const WORDS: &str = "extend --stack a";
+pub(crate) const WORDS: &str = "extend --stack a";
 
 #[test]
 fn models_are_completed(rt: HostRuntime) -> Result<(), Fail> {
@@ -194,47 +197,6 @@ fn bad_stacks_are_refused(rt: HostRuntime) -> Result<(), Fail> {
         ),
     ];
     assert_rows(&rt, rt.alloc(), &rows)
-}
-
-// A run whose call at this place fails has this status and this line. What it wrote is a front of the model, and nothing where a call
-// to open or to read failed.
-fn assert_failing(
-    rt: &impl Abort,
-    alloc: Global,
-    at: FailAt,
-    status: u8,
-    told: &str,
-) -> Result<(), Fail> {
-    let mut failing = FailList::new(alloc);
-    failing.push(at)?;
-    let (outcome, desk) = ran(alloc, WORDS, STACK, MODEL, failing)?;
-    assert_status(rt, &outcome, status);
-    assert_front(rt, desk.written(Role::Full), status);
-    assert_told(rt, alloc, &outcome, told)
-}
-
-fn assert_front(rt: &impl Abort, written: &[u8], status: u8) {
-    assert!(rt; FULL.starts_with(written));
-    assert!(rt; status != 66 || written.is_empty());
-}
-
-#[test]
-fn failing_calls_are_told(rt: HostRuntime) -> Result<(), Fail> {
-    let alloc = rt.alloc();
-    let table = [
-        (Role::Stack, 1, 66, "cannot open stack"),
-        (Role::Stack, 2, 66, "cannot read stack"),
-        (Role::Model, 1, 66, "cannot open model"),
-        (Role::Model, 3, 66, "cannot read model"),
-        (Role::Full, 1, 66, "cannot open full"),
-        (Role::Full, 2, 74, "cannot write full"),
-        (Role::Full, 3, 74, "cannot write full"),
-        (Role::Proof, 1, 10, "extended"),
-    ];
-    for (role, nth, want, told) in table {
-        assert_failing(&rt, alloc, FailAt { role, nth }, want, told)?;
-    }
-    Ok(())
 }
 
 #[test]
