@@ -17,7 +17,7 @@ use Rattle.cp_extend.specs.Grammar.{Given, Reading, ◌>>=◌, bad, fault, with_
 -- The literal is given, or its negation was given.
 abbrev pub GivesLiteral : Reading → NumberWord → Result Bool AllocError → Reading → Type 0
 GivesLiteral old n (Ok true) new = (contradicts old.given n ≡ false) × (new ≡ with_given old n)
-GivesLiteral old n (Ok false) new = contradicts old.given n ≡ true
+GivesLiteral old n (Ok false) new = (contradicts old.given n ≡ true) × (new ≡ old)
 GivesLiteral old n (Err e) new = Unit {0}
 
 -- The next word of a value line is taken; true where it is the 0.
