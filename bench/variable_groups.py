@@ -1,7 +1,7 @@
 #!/usr/bin/env python3
 """Writes a plain CNF file of about the given size in which no clause is a tautology or subsumed.
 
-    own_variables.py MEGABYTES > FILE
+    variable_groups.py MEGABYTES > FILE
 
 The variables stand in groups of four, and each clause has three literals of one group. No clause of a group is written
 twice, so no clause is subsumed, and none has a literal with its negation; what blocks or resolves may still find something. Simplified
