@@ -5,12 +5,12 @@ use Rattle.std.specs.List.{slice_get}
 use Rattle.std.proofs.lemmas.Option.{slice_get-get_or}
 use Rattle.cp_io.specs.declared.role.Role.{Role}
 use Rattle.cp_io.specs.declared.slots.Slot.{Slot}
-use Rattle.cp_io.specs.declared.standard.Place.{Place}
+use Rattle.cp_io.specs.declared.standard.StdSlot.{StdSlot}
 use Rattle.cp_io.specs.Roles.{role_index}
 use Rattle.cp_io.specs.Port.{Port, AtRole, untold_port}
 use Rattle.cp_io.proofs.RoleCases.{role_index-apart, role_cases}
 use Rattle.cp_io.specs.Slots.{slot_port, fresh_port, next_count}
-use Rattle.cp_io.specs.Standard.{place_port}
+use Rattle.cp_io.specs.Standard.{std_slot_port}
 
 slice_get-set_same : {X : Type 0} (xs : List X) (i : ℕ) (x : X) → i < length xs → slice_get (set xs i x) i ≡ Some x
 slice_get-set_same [] i x h = absurd (omega arith)
@@ -71,10 +71,10 @@ pub AtRole-slot : (Change : Port → Port → Type 0) {slots : List Slot} {role 
     → AtRole role Change (parts slot_port (fresh_port []) slots) (parts slot_port (fresh_port []) (set slots i after))
 AtRole-slot Change call d after change = AtRole-part slot_port (fresh_port []) Change call d after change
 
--- what a call does to the place of the standard desk, it does to the role
-pub AtRole-place : {F : Type 0} (Change : Port → Port → Type 0) {places : List (Place F)} {role : Role} {i : ℕ} → SlotCall places role i → (d after : Place F) → Change (place_port (get_or places i d)) (place_port after)
-    → AtRole role Change (parts place_port untold_port places) (parts place_port untold_port (set places i after))
-AtRole-place Change call d after change = AtRole-part place_port untold_port Change call d after change
+-- what a call does to the slot of the standard desk, it does to the role
+pub AtRole-std_slot : {F : Type 0} (Change : Port → Port → Type 0) {slots : List (StdSlot F)} {role : Role} {i : ℕ} → SlotCall slots role i → (d after : StdSlot F) → Change (std_slot_port (get_or slots i d)) (std_slot_port after)
+    → AtRole role Change (parts std_slot_port untold_port slots) (parts std_slot_port untold_port (set slots i after))
+AtRole-std_slot Change call d after change = AtRole-part std_slot_port untold_port Change call d after change
 
 -- the calls are counted
 pub counted_calls : {slots : List Slot} {role : Role} {i : ℕ} → SlotCall slots role i → (d after : Slot) → after.calls ≡ next_count (get_or slots i d).calls
