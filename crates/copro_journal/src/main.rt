@@ -11,23 +11,14 @@
 //! - `stopped STOP`, where the stop is `spent`, `numbers`, `refuted` or `none`.
 #![tactic(auto)]
 
-use cp_io::StdDesk;
+use cp_io::{StdDesk, program_words};
 use cp_logic::{Entry, Named, NamedList, Stop};
 use cp_top::{Outcome, Refusal, run};
 use cp_worker::{OpenGate, WorkerShift};
 use std::alloc::AllocError;
 use std::fmt::Write;
+use std::io;
 use std::process::ExitCode;
-use std::{env, io};
-
-// The words of the command line without the program's name.
-fn words(rt: &HostRuntime) -> io::Result<Vec<String>> {
-    let mut words = Vec::new(rt.alloc());
-    for word in env::args(rt)?.skip(1) {
-        words.push(word)?;
-    }
-    Ok(words)
-}
 
 fn push_clause(text: &mut String, role: &str, named: &Named) -> Result<(), AllocError> {
     write!(text, " {role} {}", named.number)?;
@@ -130,7 +121,7 @@ fn print_journal(rt: &HostRuntime, outcome: &Outcome) -> io::Result<()> {
 }
 
 fn main(rt: HostRuntime) -> ExitCode {
-    let outcome = match words(&rt) {
+    let outcome = match program_words(&rt) {
         Ok(words) => {
             let mut desk = StdDesk::new(rt);
             run(&rt, rt.alloc(), &words, &mut desk, &OpenGate)
