@@ -1,7 +1,7 @@
 //! A seat that draws numbers from claims.
 ghost use Rattle.std.specs.Prelude.{◌≡◌};
 
-use crate::view::Place;
+use crate::view::TableSeat;
 use std::marker::Model;
 
 /// A seat at some claims. Its number tells it from the other seats of these claims: the first has 0, the next 1, and so on.
@@ -9,7 +9,7 @@ use std::marker::Model;
 /// the seats that it took in, each with whether it has ended.
 #[derive(Drop)]
 pub struct ClaimSeat {
-    pub(crate) place: Place,
+    pub(crate) place: TableSeat,
     pub(crate) number: u32,
     // The seats made so far, where this is number 0.
     pub(crate) made: u32,

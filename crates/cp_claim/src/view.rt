@@ -28,4 +28,4 @@ impl TableRule<(), ClaimView, u64> for EachOnce {
 
 pub(crate) type Board = Table<(), ClaimView, u64, EachOnce, Global>;
 
-pub(crate) type Place = Seat<(), ClaimView>;
+pub(crate) type TableSeat = Seat<(), ClaimView>;

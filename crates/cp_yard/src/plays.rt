@@ -21,7 +21,7 @@ impl TableRule<Item, View, Snapshot<Book>> for OneJournal {
 
 pub(crate) type Board = Table<Item, View, Snapshot<Book>, OneJournal, Global>;
 
-pub(crate) type Place = Seat<Item, View>;
+pub(crate) type TableSeat = Seat<Item, View>;
 
 pub(crate) struct TryLock;
 

@@ -1,7 +1,7 @@
 //! Seats, and the record of the last one.
 ghost use Rattle.std.specs.Prelude.{◌≡◌, ◌+◌, [], true};
 
-use crate::plays::Place;
+use crate::plays::TableSeat;
 use std::marker::Model;
 use std::snapshot::Snapshot;
 
@@ -11,7 +11,7 @@ use std::snapshot::Snapshot;
 /// those of the seats that it took in the posts and what each try met.
 #[derive(Drop)]
 pub struct Seat {
-    pub(crate) place: Place,
+    pub(crate) place: TableSeat,
     pub(crate) number: u32,
     // How many seats were made, for number 0.
     pub(crate) made: u32,
@@ -54,7 +54,7 @@ impl Seat {
     }
 
     // What the seat steps with.
-    pub(crate) fn into_place(self) -> Place
+    pub(crate) fn into_place(self) -> TableSeat
         ensures table { result.table_id ≡ self.table }
         ensures view { result.me.0 ≡ self.view }
         ensures kept { (result.me.1 ≡ []) × (result.me.0.lives ≡ true) }
@@ -68,7 +68,7 @@ impl Seat {
     }
 
     // The seat that is made with the table.
-    pub(crate) fn first(place: Place) -> Seat
+    pub(crate) fn first(place: TableSeat) -> Seat
         requires alone { (place.me.1 ≡ []) × (place.me.0.lives ≡ true) × (place.me.0.hand ≡ 0) }
         requires number { (place.me.0.number ≡ 0) × (place.me.0.made ≡ 1) }
         ensures table { result.table ≡ place.table_id }
