@@ -1,6 +1,7 @@
 //! The sizes of a formula.
 
 ghost use Rattle.std.specs.Prelude.{◌≡◌, ◌<◌, ◌^◌, length};
+ghost use Rattle.cp_logic.specs.Formulas.{IsFormula};
 ghost use Rattle.cp_summary.specs.Text.{sizes_of, printed_sizes};
 
 use cp_logic::{Clause, Formula};
@@ -16,9 +17,10 @@ pub struct Sizes {
 }
 
 impl Sizes {
-    /// The sizes of the formula.
+    /// The sizes of the formula, which is one as the definitions say.
     pub fn of(formula: &Formula) -> Sizes
-        ensures { result ≡ sizes_of formula.now.formula }
+        ensures value { result ≡ sizes_of formula.now.formula }
+        ensures valid { IsFormula formula.now.formula }
     {
         let clauses = formula.len() as u64;
         let mut literals = 0;

@@ -1,14 +1,13 @@
 -- The roles of a command are bound by a loop over them.
-use Rattle.std.proofs.Common.{◌≡◌, ℕ, suc, ◌+◌, ◌<◌, ◌≤◌, true, false, List, [], ◌∷◌, ◌++◌, length, take, drop, get_or, Result, Ok, Err, refl, sym, ◌∙◌, ap, subst, arith}
-use Rattle.std.specs.Prelude.{map, None}
+use Rattle.std.proofs.Common.{◌≡◌, ℕ, suc, ◌+◌, ◌<◌, true, false, List, [], ◌∷◌, ◌++◌, length, take, drop, get_or, Result, sym, ◌∙◌, ap, subst, arith}
+use Rattle.std.specs.Prelude.{None}
 use Rattle.std.specs.Result.{is_err}
 use Rattle.std.proofs.Math.Seq.{take-suc, drop-cons}
 use Rattle.std.proofs.lemmas.List.{map-append, take-append-drop}
 use Rattle.cp_io.specs.declared.desk.Failed.{Failed}
-use Rattle.cp_io.specs.declared.role.Role.{Role}
-use Rattle.cp_io.specs.Port.{Port, Ports, AtRole, Binds}
+use Rattle.cp_io.specs.Port.{Ports, AtRole, Binds}
 use Rattle.cp_top.specs.declared.binding.Bind.{Bind}
-use Rattle.cp_top.specs.Bindings.{Binding, bind, binding_of, wanted, AreApart, BoundSoFar, FailedToBind}
+use Rattle.cp_top.specs.Bindings.{Binding, bind, wanted, AreApart, BoundSoFar, FailedToBind}
 use Rattle.cp_top.proofs.RolesBound.{bound-on, bound-off, unbound-next}
 
 -- a place in the list: what is before it, and what is from it on

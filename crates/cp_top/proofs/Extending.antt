@@ -1,5 +1,5 @@
 -- The steps of a run of `extend`: its roles are bound, its inputs are read, and the model is written.
-use Rattle.std.proofs.Common.{◌≡◌, ℕ, Bool, true, false, List, [], ◌∷◌, Option, Some, None, Result, Ok, Err, inr, refl, sym, ◌∙◌, ap, subst}
+use Rattle.std.proofs.Common.{◌≡◌, ℕ, Bool, true, false, List, [], Option, Result, Ok, Err, inr, refl, sym, ◌∙◌, ap, subst}
 use Rattle.std.specs.Prelude.{IfSome}
 use Rattle.std.specs.Result.{is_err}
 use Rattle.cp_io.specs.declared.desk.Failed.{Failed}
@@ -19,7 +19,7 @@ use Rattle.cp_top.specs.declared.outcome.Refusal.TheVariants.{Usage, OpenFault, 
 use Rattle.cp_top.specs.Options.{Taken}
 use Rattle.cp_top.specs.Run.{AreBound}
 use Rattle.cp_top.specs.Bindings.{binding_of, JustBound, BoundSoFar}
-use Rattle.cp_top.specs.Texts.{write, NothingGrew, HaveGrown, HaveStopped}
+use Rattle.cp_top.specs.Texts.{NothingGrew, HaveGrown, HaveStopped}
 use Rattle.cp_top.specs.Commands.{extend_bindings, extend_texts}
 use Rattle.cp_top.specs.Input.{StackReads, ModelReads, ModelAnswer, ReadsStack, ReadsModel}
 use Rattle.cp_stack.specs.Reads.{stack_of}

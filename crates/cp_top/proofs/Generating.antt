@@ -1,9 +1,9 @@
 -- The steps of a run of `generate`: its formula is simplified, and the summary of that is written.
-use Rattle.std.proofs.Common.{◌≡◌, ◌≤◌, ℕ, ◌+◌, true, false, List, [], Option, Result, Ok, Err, refl, sym, ◌∙◌, ap, subst, arith}
+use Rattle.std.proofs.Common.{◌≡◌, ◌≤◌, ℕ, true, false, List, [], Result, Ok, refl, ap, subst, arith}
 use Rattle.std.specs.Result.{is_err}
 use Rattle.cp_io.specs.declared.desk.Failed.{Failed}
 use Rattle.cp_io.specs.declared.role.Role.TheVariants.{Summary}
-use Rattle.cp_io.specs.Port.{Port, Ports, AtRole, Writes}
+use Rattle.cp_io.specs.Port.{Ports, AtRole, Writes}
 use Rattle.cp_logic.specs.Formulas.{Formula, IsFormula}
 use Rattle.cp_logic.specs.Journals.{folded, number_limit}
 use Rattle.cp_logic.specs.Pairs.{pairs_of}
@@ -14,7 +14,7 @@ use Rattle.cp_sweep.specs.declared.turns.Swept.{Swept}
 use Rattle.cp_sweep.specs.Swept.{IsSwept, IsUnspent}
 use Rattle.cp_words.specs.Words.{Generate, generate_options}
 use Rattle.cp_top.specs.Bindings.{BoundSoFar}
-use Rattle.cp_top.specs.Texts.{write, NothingGrew, HaveGrown, HaveStopped}
+use Rattle.cp_top.specs.Texts.{HaveGrown, HaveStopped}
 use Rattle.cp_top.specs.Commands.{generate_bindings, generate_texts, summary_of}
 use Rattle.cp_top.specs.Simplified.{IsSimplified}
 use Rattle.cp_top.specs.Generation.{all_rules, formula_for, summary_after, SimplifiesGenerated, PrintsSummary, PrintsSummaryFront}

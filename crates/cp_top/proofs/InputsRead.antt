@@ -1,16 +1,14 @@
 -- The inputs of a run are read: what a reader says of the front of a text is what the text says.
-use Rattle.std.proofs.Common.{◌≡◌, ◌<◌, ◌≤◌, ◌⊎◌, ℕ, ◌+◌, Bool, List, [], ◌∷◌, ◌++◌, length, take, Option, Some, None, Result, Ok, Err, inl, inr, refl, sym, ◌∙◌, ap, subst, arith}
+use Rattle.std.proofs.Common.{◌≡◌, ◌<◌, ◌≤◌, ◌⊎◌, ℕ, ◌+◌, Bool, List, [], ◌∷◌, ◌++◌, length, take, Option, Some, None, Result, Ok, Err, inl, inr, sym, ◌∙◌, ap, arith}
 use Rattle.std.specs.Prelude.{IfSome}
 use Rattle.std.specs.Global.{Vec}
 use Rattle.std.specs.Io.KnownBytes.{prepend_known, IsAtEnd}
 use Rattle.std.proofs.Math.Nat.{eq-or-lt_of_le}
 use Rattle.std.proofs.lemmas.List.{append-nil, take-append-le, take_all}
-use Rattle.cp_io.specs.declared.role.Role.{Role}
 use Rattle.cp_io.specs.declared.role.Role.TheVariants.{Cnf, Stack, Model}
 use Rattle.cp_io.specs.declared.role.Role.TheVariants as roles
 use Rattle.cp_io.specs.Limits.{standard_limits}
-use Rattle.cp_io.specs.Port.{Port, Ports, AtRole, Rose}
-use Rattle.cp_io.specs.ReadsUpTo.{ReadsUpTo}
+use Rattle.cp_io.specs.Port.{Ports, AtRole}
 use Rattle.cp_logic.specs.declared.pairs.Stack.{Stack as HeldStack}
 use Rattle.cp_logic.specs.Slots.{Held}
 use Rattle.cp_dimacs.specs.Grammar.{reads}
@@ -21,7 +19,7 @@ use Rattle.cp_extend.specs.Grammar.{model_reads}
 use Rattle.cp_extend.specs.Laws.{ReadsWithin as ModelsWithin}
 use Rattle.cp_top.specs.declared.outcome.Refusal.{Refusal}
 use Rattle.cp_top.specs.declared.outcome.Refusal.TheVariants.{Usage, OpenFault, ReadFault, TooLarge, BadInput, BadStack, BadModel, NoModel, WriteFault, NoMemory}
-use Rattle.cp_top.specs.Input.{ReadsInput, OnlyReads, ReadsFormula, FormulaAnswer, FormulaSaid, ReadsStack, StackAnswer, StackSaid, ReadsModel, ModelAnswer, ModelSaid}
+use Rattle.cp_top.specs.Input.{ReadsInput, ReadsFormula, FormulaAnswer, FormulaSaid, ReadsStack, StackAnswer, StackSaid, ReadsModel, ModelAnswer, ModelSaid}
 
 -- the bytes that were read are the front of the text
 front-of : (most : ℕ) (bytes rest : List ℕ) → length bytes ≤ most → (length bytes < most → rest ≡ []) → bytes ≡ take most (bytes ++ rest)

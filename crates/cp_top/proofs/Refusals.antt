@@ -1,57 +1,24 @@
 -- The refusals of a run of `simplify` before its work: words, binds, and the input.
-use Rattle.std.proofs.Common.{◌≡◌, ◌≢◌, ◌⊎◌, ℕ, List, Option, Some, Result, Ok, Err, inl, inr, refl, sym, ◌∙◌, ap, subst}
-use Rattle.std.specs.Prelude.{IsOk}
+use Rattle.std.proofs.Common.{◌≡◌, ◌≢◌, ℕ, List, Ok, Err, inr}
 use Rattle.cp_io.specs.declared.role.Role.TheVariants.{Cnf}
-use Rattle.cp_io.specs.Port.{Port, Ports, AtRole, NothingBound, Rose}
+use Rattle.cp_io.specs.Port.{Ports}
 use Rattle.cp_logic.specs.Slots.{Held}
 use Rattle.cp_dimacs.specs.declared.refusal.CnfRefusal.TheVariants as cnf
-use Rattle.cp_words.specs.declared.words.UsageKind.{UsageKind}
 use Rattle.cp_words.specs.declared.words.UsageKind.TheVariants as kind
-use Rattle.cp_words.specs.declared.words.WordsRefusal.{WordsRefusal}
 use Rattle.cp_words.specs.declared.words.WordsRefusal.TheVariants as words
 use Rattle.cp_words.specs.Words.{Simplify, simplify_options}
 use Rattle.cp_top.specs.declared.outcome.Outcome.TheVariants.{Refused}
 use Rattle.cp_top.specs.declared.outcome.Refusal.{Refusal}
 use Rattle.cp_top.specs.declared.outcome.Refusal.TheVariants.{Usage, OpenFault, ReadFault, TooLarge, BadInput, BadStack, BadModel, NoModel, WriteFault, NoMemory}
-use Rattle.cp_top.specs.Bindings.{JustBound, BoundSoFar}
-use Rattle.cp_top.specs.Texts.{NothingGrew}
 use Rattle.cp_top.specs.Commands.{simplify_bindings}
-use Rattle.cp_top.specs.Input.{FormulaReads, ReadsFormula}
 use Rattle.cp_top.specs.Run.{HasCause, IsWritten, AreBound}
 use Rattle.cp_top.specs.Steps.{Begins}
 use Rattle.cp_top.proofs.Simplify.{still-bound, nothing-grew}
 
 -- The roles are bound and Cnf doesn't read as a formula, or a bind failed.
-module _ (workers : Simplify → ℕ) (words : List (List ℕ)) (old p : Ports) (o : Simplify) (taken : simplify_options words ≡ Ok o) where
-  is-taken : IsOk (simplify_options words)
-  is-taken = rw taken refl
-
+module _ (words : List (List ℕ)) (old p : Ports) (o : Simplify) (taken : simplify_options words ≡ Ok o) where
   not-command : simplify_options words ≢ Err kind.Command
   not-command e = cc
-
-  pub begun-cause : (refusal : Refusal) → Begins o (Err refusal) old p → HasCause words old p (Refused refusal)
-  begun-cause (OpenFault role) h = (o, taken, h.failed)
-  begun-cause (ReadFault role) h = (o, taken, rw h.2.here.answer.0 (refl, subst (λ n. Rose n (p Cnf).read_faults) (h.1.rest.read_faults Cnf) h.2.here.answer.1))
-  begun-cause (TooLarge role limit offset) h = (is-taken, (h.2.here.answer.0, subst (λ left. FormulaReads left (Err (cnf.TooLarge limit offset))) (h.1.rest.left Cnf) h.2.here.answer.1))
-  begun-cause (BadInput offset kind) h = (is-taken, subst (λ left. FormulaReads left (Err (cnf.BadInput offset kind))) (h.1.rest.left Cnf) h.2.here.answer)
-  begun-cause NoMemory h = not-command
-  begun-cause (Usage kind) h = absurd h.2.here.answer
-  begun-cause (BadStack offset kind) h = absurd h.2.here.answer
-  begun-cause (BadModel offset kind) h = absurd h.2.here.answer
-  begun-cause NoModel h = absurd h.2.here.answer
-  begun-cause (WriteFault role journal) h = absurd h.2.here.answer
-
-  pub begun-written : (refusal : Refusal) → Begins o (Err refusal) old p → IsWritten workers words old p (Refused refusal)
-  begun-written (OpenFault role) h = h.rest.held
-  begun-written (ReadFault role) h = nothing-grew o old h.0 p _ h.1 h.2
-  begun-written (TooLarge role limit offset) h = nothing-grew o old h.0 p _ h.1 h.2
-  begun-written (BadInput offset kind) h = nothing-grew o old h.0 p _ h.1 h.2
-  begun-written NoMemory h = nothing-grew o old h.0 p _ h.1 h.2
-  begun-written (Usage kind) h = absurd h.2.here.answer
-  begun-written (BadStack offset kind) h = absurd h.2.here.answer
-  begun-written (BadModel offset kind) h = absurd h.2.here.answer
-  begun-written NoModel h = absurd h.2.here.answer
-  begun-written (WriteFault role journal) h = absurd h.2.here.answer
 
   pub begun-bound : (refusal : Refusal) → Begins o (Err refusal) old p → AreBound (simplify_options words) simplify_bindings p (Refused refusal)
   begun-bound (OpenFault role) h = (o, taken, h.bound)
@@ -69,8 +36,8 @@ module _ (workers : Simplify → ℕ) (words : List (List ℕ)) (old p : Ports) 
   pub lacking-cause : HasCause words old p (Refused NoMemory)
   lacking-cause = not-command
 
-  pub lacking-written : (f : Held) → Begins o (Ok f) old p → IsWritten workers words old p (Refused NoMemory)
-  lacking-written f h = nothing-grew o old h.0 p _ h.1 h.2
+  pub lacking-written : (workers : Simplify → ℕ) (f : Held) → Begins o (Ok f) old p → IsWritten workers words old p (Refused NoMemory)
+  lacking-written workers f h = nothing-grew o old h.0 p _ h.1 h.2
 
   pub lacking-bound : (f : Held) → Begins o (Ok f) old p → AreBound (simplify_options words) simplify_bindings p (Refused NoMemory)
   lacking-bound f h = inr (o, taken, still-bound o old h.0 p _ h.1 h.2)

@@ -1,5 +1,5 @@
 -- The roles of a command are bound one after the other.
-use Rattle.std.proofs.Common.{◌≡◌, ◌≢◌, ◌⊎◌, ℕ, Bool, true, false, cond, eqb, List, [], ◌∷◌, ◌++◌, Option, Some, None, Result, Ok, Err, inl, inr, refl, sym, ◌∙◌, ap, subst, arith}
+use Rattle.std.proofs.Common.{◌≡◌, ◌≢◌, ℕ, Bool, true, false, cond, List, [], ◌∷◌, ◌++◌, Option, Some, None, Result, Ok, Err, inl, inr, refl, sym, ◌∙◌, ap, subst, arith}
 use Rattle.std.specs.Prelude.{IfSome}
 use Rattle.std.specs.Option.{option_map}
 use Rattle.std.specs.Result.{is_err}
@@ -10,7 +10,7 @@ use Rattle.cp_io.specs.declared.role.Way.{Way}
 use Rattle.cp_io.specs.Roles.{role_index, same_role}
 use Rattle.cp_io.specs.Port.{Port, Ports, AtRole, Binds, NothingBound, Rose}
 use Rattle.cp_io.proofs.RoleCases.{role_cases, role_index-apart, kept}
-use Rattle.cp_top.specs.Bindings.{Binding, bind, binding_of, way_of, before, JustBound, BindFailed, OnlyBinds, BoundSoFar, FailedToBind}
+use Rattle.cp_top.specs.Bindings.{Binding, bind, binding_of, way_of, before, OnlyBinds, BoundSoFar, FailedToBind}
 
 pub same_role-refl : (r : Role) → same_role r r ≡ true
 same_role-refl r = let n = role_index r in grind (arith, nat_tests)

@@ -1,12 +1,12 @@
 -- The steps of a run of `simplify`: its roles are bound, its input is read, and its texts are written.
-use Rattle.std.proofs.Common.{◌≡◌, ◌≢◌, ◌⊎◌, ℕ, true, false, List, [], ◌∷◌, Option, Some, None, Result, Ok, Err, inl, inr, refl, sym, ◌∙◌, ap, subst}
+use Rattle.std.proofs.Common.{◌≡◌, ℕ, true, false, List, [], ◌∷◌, Option, Some, Result, Ok, refl, sym, ◌∙◌, ap, subst}
 use Rattle.std.specs.Prelude.{IfSome}
 use Rattle.std.specs.Result.{is_err}
 use Rattle.cp_io.specs.declared.desk.Failed.{Failed}
 use Rattle.cp_io.specs.declared.role.Role.{Role}
 use Rattle.cp_io.specs.declared.role.Role.TheVariants.{Cnf, Reduced, Stack, Proof, Model, Full, Summary, Frozen}
 use Rattle.cp_io.specs.declared.role.Way.TheVariants.{Out}
-use Rattle.cp_io.specs.Port.{Port, Ports, AtRole, Writes, NothingBound, Rose}
+use Rattle.cp_io.specs.Port.{Port, Ports, AtRole, Writes, Rose}
 use Rattle.cp_io.proofs.RoleCases.{kept}
 use Rattle.cp_logic.specs.declared.settings.Form.{Form}
 use Rattle.cp_logic.specs.declared.settings.Stop.{Stop}
@@ -23,18 +23,16 @@ use Rattle.cp_summary.specs.declared.sizes.Sizes.{Sizes}
 use Rattle.cp_summary.specs.Text.{sizes_of}
 use Rattle.cp_words.specs.declared.words.UsageKind.TheVariants as kind
 use Rattle.cp_words.specs.Words.{Simplify, simplify_options}
-use Rattle.cp_worker.specs.declared.lists.WorkerShift.{WorkerShift}
-use Rattle.cp_yard.specs.Views.{SeatView}
 use Rattle.cp_top.specs.declared.outcome.Outcome.{Outcome}
 use Rattle.cp_top.specs.declared.outcome.Outcome.TheVariants.{Done, Extended, Generated, Refused}
 use Rattle.cp_top.specs.declared.outcome.Refusal.{Refusal}
 use Rattle.cp_top.specs.declared.outcome.Refusal.TheVariants.{Usage, OpenFault, ReadFault, TooLarge, BadInput, BadStack, BadModel, NoModel, WriteFault, NoMemory}
 use Rattle.cp_top.specs.declared.work.Simplified.{Simplified}
 use Rattle.cp_top.specs.Status.{status_of}
-use Rattle.cp_top.specs.Bindings.{binding_of, way_of, JustBound, BoundSoFar, FailedToBind}
+use Rattle.cp_top.specs.Bindings.{binding_of, way_of, JustBound, BoundSoFar}
 use Rattle.cp_top.specs.Texts.{Written, write, is_written, NothingGrew, HaveGrown, HaveStopped, OnlyWrites, WrittenSoFar, FailedToWrite}
 use Rattle.cp_top.specs.Commands.{simplify_bindings, simplify_texts, summary_of}
-use Rattle.cp_top.specs.Input.{FormulaReads, ReadsFormula, OnlyReads}
+use Rattle.cp_top.specs.Input.{FormulaReads, ReadsFormula}
 use Rattle.cp_top.specs.Run.{HasCause, IsWritten, AreBound, SimplifiesInput, PrintsResult, PrintsFront, WriteFailed, texts_after}
 use Rattle.cp_top.specs.Steps.{Begins, Finishes, IsResult, texts_of}
 use Rattle.cp_top.proofs.TextsWritten.{none-written, written-on, written-off, grown-since, stopped-since}

@@ -1,5 +1,5 @@
 -- The texts of a command are written one after the other.
-use Rattle.std.proofs.Common.{◌≡◌, ◌≢◌, ◌⊎◌, ◌≤◌, ℕ, Bool, true, false, cond, List, [], ◌∷◌, ◌++◌, Option, Some, None, Result, Ok, Err, inl, inr, refl, sym, ◌∙◌, ap, subst, arith}
+use Rattle.std.proofs.Common.{◌≡◌, ◌≢◌, ◌≤◌, ℕ, Bool, true, false, cond, List, [], ◌∷◌, ◌++◌, Option, Some, None, Result, Ok, Err, inl, inr, refl, sym, ◌∙◌, ap, arith}
 use Rattle.std.specs.Prelude.{◌||◌}
 use Rattle.std.specs.Io.KnownBytes.{append_known}
 use Rattle.std.specs.Result.{is_err}
@@ -7,7 +7,7 @@ use Rattle.std.proofs.lemmas.List.{append-nil}
 use Rattle.cp_io.specs.declared.desk.Failed.{Failed}
 use Rattle.cp_io.specs.declared.role.Role.{Role}
 use Rattle.cp_io.specs.Roles.{same_role}
-use Rattle.cp_io.specs.Port.{Port, Ports, AtRole, Writes, Rose}
+use Rattle.cp_io.specs.Port.{Port, Ports, AtRole, Writes}
 use Rattle.cp_io.proofs.RoleCases.{role_cases, kept}
 use Rattle.cp_top.specs.Texts.{Written, write, text_of, is_written, texts_before, HaveGrown, HaveStopped, NothingGrew, OnlyWrites, WrittenSoFar, FailedToWrite}
 use Rattle.cp_top.proofs.RolesBound.{same_role-refl, same_role-apart}

@@ -1,5 +1,5 @@
 -- Words that are refused, and words for which memory is wanting.
-use Rattle.std.proofs.Common.{◌≡◌, ◌≢◌, ◌⊎◌, ℕ, List, Result, Ok, Err, inl, inr, refl}
+use Rattle.std.proofs.Common.{◌≡◌, ◌≢◌, ℕ, List, Result, Ok, Err}
 use Rattle.cp_io.specs.Port.{Ports}
 use Rattle.cp_words.specs.declared.words.UsageKind.{UsageKind}
 use Rattle.cp_words.specs.declared.words.UsageKind.TheVariants as kind

@@ -1,9 +1,9 @@
 -- The rounds of workers over a formula, and the sweep of what they leave.
-use Rattle.std.proofs.Common.{◌≡◌, ◌≤◌, ◌⊎◌, ℕ, ◌+◌, List, [], Option, Some, None, inl, inr, refl, sym, ◌∙◌, ap, subst, arith}
+use Rattle.std.proofs.Common.{◌≡◌, ◌≤◌, ◌⊎◌, ℕ, ◌+◌, List, [], Some, None, inl, inr, refl, sym, ◌∙◌, ap, subst, arith}
 use Rattle.cp_logic.specs.declared.settings.Rules.{Rules}
 use Rattle.cp_logic.specs.Lists.{Roomy}
 use Rattle.cp_logic.specs.Formulas.{Formula}
-use Rattle.cp_logic.specs.Journals.{Post, folded}
+use Rattle.cp_logic.specs.Journals.{folded}
 use Rattle.cp_logic.specs.Pairs.{pairs_of}
 use Rattle.cp_book.specs.Views.{BookView}
 use Rattle.cp_occ.specs.Cells.{CellView}

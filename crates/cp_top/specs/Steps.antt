@@ -1,5 +1,5 @@
 -- The steps of a run of `simplify`: its roles are bound and its input is read, the formula is simplified, and the texts are written.
-use Rattle.std.specs.Prelude.{◌≡◌, ℕ, List, Result, Err}
+use Rattle.std.specs.Prelude.{◌≡◌, ℕ, List, Result, Ok, Err}
 use Rattle.cp_io.specs.declared.role.Role.TheVariants.{Cnf}
 use Rattle.cp_io.specs.Port.{Ports, AtRole}
 use Rattle.cp_logic.specs.declared.settings.Rules.{Rules}
@@ -10,7 +10,7 @@ use Rattle.cp_logic.specs.Slots.{Held}
 use Rattle.cp_sweep.specs.declared.turns.Swept.{Swept}
 use Rattle.cp_sweep.specs.Swept.{IsSweptAfter, IsUnspent}
 use Rattle.cp_summary.specs.declared.sizes.Sizes.{Sizes}
-use Rattle.cp_words.specs.Words.{Simplify}
+use Rattle.cp_words.specs.Words.{Simplify, simplify_options}
 use Rattle.cp_top.specs.declared.outcome.Outcome.{Outcome}
 use Rattle.cp_top.specs.declared.outcome.Outcome.TheVariants.{Done, Refused}
 use Rattle.cp_top.specs.declared.outcome.Refusal.{Refusal}
@@ -27,6 +27,10 @@ use Rattle.cp_top.specs.Team.{IsTeamwork}
 abbrev pub Begins : Simplify → Result Held Refusal → Ports → Ports → Type 0
 Begins o (Err (OpenFault role)) old new = FailedToBind (simplify_bindings o) role old new
 Begins o result old new = (bound : Ports) × BoundSoFar (simplify_bindings o) old bound × AtRole Cnf (ReadsFormula result) bound new
+
+-- the words give these options, the roles are bound, and Cnf reads as this formula
+abbrev pub HasBegun : List (List ℕ) → Simplify → Held → Ports → Ports → Type 0
+HasBegun words o f old new = (simplify_options words ≡ Ok o) × Begins o (Ok f) old new
 
 -- the result of so many workers in so many rounds, with this limit of a neighbourhood, and of the sweep behind them
 pub record IsResult (workers rounds limit : ℕ) (f : Formula) (rules : Rules) (s : Simplified) : Type 0 where

@@ -3,7 +3,7 @@ use Rattle.std.specs.Prelude.{◌≡◌, ◌≤◌, ℕ, List, [], ◌∷◌, �
 use Rattle.std.specs.Io.KnownBytes.{append_known}
 use Rattle.cp_io.specs.declared.role.Role.{Role}
 use Rattle.cp_io.specs.Roles.{same_role}
-use Rattle.cp_io.specs.Port.{Port, Ports, Rose}
+use Rattle.cp_io.specs.Port.{Ports, Rose}
 
 -- a role, and the text that is written to it
 pub record Written : Type 0 where

@@ -1,12 +1,13 @@
 //! The run of `simplify`, and the run of any command.
 
-ghost use Rattle.std.specs.Prelude.{◌≡◌, map, string_bytes};
+ghost use Rattle.std.specs.Prelude.{◌≡◌, ℕ, map, string_bytes, IfOk, IfErr};
 ghost use Rattle.cp_io.specs.Port.{NothingBound};
-ghost use Rattle.cp_words.specs.Words.{simplify_options};
-ghost use Rattle.cp_words.specs.Answers.{simplify_seen};
+ghost use Rattle.cp_words.specs.Words.{Simplify, simplify_options};
+ghost use Rattle.cp_words.specs.Answers.{simplify_seen, HasSimplifyLimits};
+ghost use Rattle.cp_top.specs.declared.outcome.Outcome.TheVariants.{Refused};
 ghost use Rattle.cp_top.specs.Commands.{simplify_bindings};
 ghost use Rattle.cp_top.specs.Run.{HasCause, IsWritten, AreBound, asked_workers, no_workers};
-ghost use Rattle.cp_top.specs.Steps.{Begins};
+ghost use Rattle.cp_top.specs.Steps.{Begins, HasBegun};
 ghost use Rattle.cp_top.specs.Whole.{HasWholeCause, IsWholeWritten, AreWholeBound};
 
 use crate::binding::bind_simplify;
@@ -70,12 +71,8 @@ fn run_simplify<R: Threads + Sync, D: Desk, G: Gate + Sync>(
     ensures written { IsWritten asked_workers (map string_bytes words.now) (D.port desk.old) (D.port desk.new) result }
     ensures bound { AreBound (simplify_options (map string_bytes words.now)) simplify_bindings (D.port desk.new) result }
 {
-    let options = match read_simplify_words(alloc, words) {
-        Ok(options) => options,
-        Err(refusal) => return Outcome::Refused(refusal_of(refusal)),
-    };
-    let formula = match begin(alloc, desk, &options) {
-        Ok(formula) => formula,
+    let (options, formula) = match begin(alloc, words, desk) {
+        Ok(begun) => begun,
         Err(refusal) => return Outcome::Refused(refusal),
     };
     let sizes = Sizes::of(&formula);
@@ -104,12 +101,8 @@ pub fn run_alone<D: Desk>(alloc: Global, words: &[String], desk: &mut D) -> Outc
     // The roles are bound in their order, each in its way under its name, and no other is.
     ensures bound { AreBound (simplify_options (map string_bytes words.now)) simplify_bindings (D.port desk.new) result }
 {
-    let options = match read_simplify_words(alloc, words) {
-        Ok(options) => options,
-        Err(refusal) => return Outcome::Refused(refusal_of(refusal)),
-    };
-    let formula = match begin(alloc, desk, &options) {
-        Ok(formula) => formula,
+    let (options, formula) = match begin(alloc, words, desk) {
+        Ok(begun) => begun,
         Err(refusal) => return Outcome::Refused(refusal),
     };
     let sizes = Sizes::of(&formula);
@@ -119,8 +112,31 @@ pub fn run_alone<D: Desk>(alloc: Global, words: &[String], desk: &mut D) -> Outc
     finish(desk, &options, sizes, simplified)
 }
 
+// Reads the words, binds the roles of `simplify`, and reads the formula of Cnf; or says why the run ends before its work.
+fn begin<'a, D: Desk>(
+    alloc: Global,
+    words: &'a [String],
+    desk: &mut D,
+) -> Result<(SimplifyOptions<'a>, Formula), Refusal>
+    requires { NothingBound (D.port desk.old) }
+    ensures begun { IfOk result (λ begun. HasBegun (map string_bytes words.now) (simplify_seen begun.0) begun.1 (D.port desk.old) (D.port desk.new)) }
+    ensures limits { IfOk result (λ begun. HasSimplifyLimits begun.0) }
+    ensures cause { IfErr result (λ refusal. HasCause (map string_bytes words.now) (D.port desk.old) (D.port desk.new) (Refused refusal)) }
+    ensures written { IfErr result (λ refusal. (workers : Simplify → ℕ) → IsWritten workers (map string_bytes words.now) (D.port desk.old) (D.port desk.new) (Refused refusal)) }
+    ensures bound { IfErr result (λ refusal. AreBound (simplify_options (map string_bytes words.now)) simplify_bindings (D.port desk.new) (Refused refusal)) }
+{
+    let options = match read_simplify_words(alloc, words) {
+        Ok(options) => options,
+        Err(refusal) => return Err(refusal_of(refusal)),
+    };
+    match bind_and_read(alloc, desk, &options) {
+        Ok(formula) => Ok((options, formula)),
+        Err(refusal) => Err(refusal),
+    }
+}
+
 // Binds the roles of `simplify`, and reads the formula of Cnf.
-fn begin<D: Desk>(
+fn bind_and_read<D: Desk>(
     alloc: Global,
     desk: &mut D,
     options: &SimplifyOptions<'_>,

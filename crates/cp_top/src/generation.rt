@@ -1,9 +1,7 @@
 //! The run of `generate`: the words, the role, the formula that the words ask for, its simplification, and the summary of it.
 
-ghost use Rattle.std.specs.Prelude.{◌≡◌, map, string_bytes};
+ghost use Rattle.std.specs.Prelude.{map, string_bytes};
 ghost use Rattle.cp_io.specs.Port.{NothingBound};
-ghost use Rattle.cp_logic.specs.Formulas.{IsFormula};
-ghost use Rattle.cp_summary.specs.Text.{sizes_of};
 ghost use Rattle.cp_words.specs.Words.{generate_options};
 ghost use Rattle.cp_top.specs.Commands.{generate_bindings};
 ghost use Rattle.cp_top.specs.Generation.{HasGenerateCause, IsGeneration};
@@ -14,7 +12,7 @@ use crate::outcome::{Outcome, Refusal, refusal_of};
 use crate::output::print_counts;
 use cp_gen::generate;
 use cp_io::{Desk, Role};
-use cp_logic::{Choice, Formula, Rules};
+use cp_logic::{Choice, Rules};
 use cp_summary::Sizes;
 use cp_sweep::simplify;
 use cp_words::read_generate_words;
@@ -60,7 +58,7 @@ pub fn run_gen<D: Desk>(alloc: Global, words: &[String], desk: &mut D) -> Outcom
     let Ok(formula) = generate(alloc, options.seed, options.vars, options.clauses) else {
         return Outcome::Refused(Refusal::NoMemory);
     };
-    let sizes = sizes_of(&formula);
+    let sizes = Sizes::of(&formula);
     let Ok(swept) = simplify(alloc, formula, &ALL) else {
         return Outcome::Refused(Refusal::NoMemory);
     };
@@ -74,13 +72,4 @@ pub fn run_gen<D: Desk>(alloc: Global, words: &[String], desk: &mut D) -> Outcom
         journal: swept.journal,
         stopped: swept.stopped,
     }
-}
-
-// The sizes of a formula, which is one as the definitions say.
-fn sizes_of(formula: &Formula) -> Sizes
-    ensures value { result ≡ sizes_of formula.now.formula }
-    ensures valid { IsFormula formula.now.formula }
-{
-    let _vars = formula.vars();
-    Sizes::of(formula)
 }

@@ -23,10 +23,7 @@ pub(crate) fn read_formula<D: Desk>(alloc: Global, desk: &mut D) -> Result<Formu
     requires { (D.port desk.old roles.Cnf).way ≡ Some In }
     ensures { AtRole roles.Cnf (ReadsFormula result) (D.port desk.old) (D.port desk.new) }
 {
-    let bytes = match read_input(alloc, desk, Role::Cnf) {
-        Ok(bytes) => bytes,
-        Err(refusal) => return Err(refusal),
-    };
+    let bytes = read_input(alloc, desk, Role::Cnf)?;
     cp_dimacs::laws::reads_within();
     parse_formula(alloc, &bytes)
 }
@@ -51,10 +48,7 @@ pub(crate) fn read_stack<D: Desk>(alloc: Global, desk: &mut D) -> Result<Stack, 
     requires { (D.port desk.old roles.Stack).way ≡ Some In }
     ensures { AtRole roles.Stack (ReadsStack result) (D.port desk.old) (D.port desk.new) }
 {
-    let bytes = match read_input(alloc, desk, Role::Stack) {
-        Ok(bytes) => bytes,
-        Err(refusal) => return Err(refusal),
-    };
+    let bytes = read_input(alloc, desk, Role::Stack)?;
     cp_stack::laws::reads_within();
     parse_pairs(alloc, &bytes)
 }
@@ -84,10 +78,7 @@ pub(crate) fn read_model<D: Desk>(
     requires within { vars ≤ standard_limits.variables }
     ensures { AtRole roles.Model (ReadsModel vars result) (D.port desk.old) (D.port desk.new) }
 {
-    let bytes = match read_input(alloc, desk, Role::Model) {
-        Ok(bytes) => bytes,
-        Err(refusal) => return Err(refusal),
-    };
+    let bytes = read_input(alloc, desk, Role::Model)?;
     cp_extend::laws::reads_within();
     parse_values(alloc, vars, &bytes)
 }

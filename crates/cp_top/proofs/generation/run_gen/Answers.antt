@@ -15,11 +15,11 @@ simplify-requires g c = record {
 pub returns-then-is_err-clause-written : goal.returns-then-is_err-clause-written
 returns-then-is_err-clause-written g c =
     prints-summary-front (map string_bytes c.args.words.now) (g.D.Desk.port c.args.desk.now) (g.D.Desk.port c.bind_generate.new.desk) (g.D.Desk.port c.print_counts.new.desk)
-    (generate_seen c.in-Ok.options) c.in-Ok.ensures.answer c.in_default.ensures c.in-Ok-generate.formula.formula c.in-Ok-generate.ensures c.sizes_of-sizes.ensures.valid c.sizes_of-sizes.result c.sizes_of-sizes.ensures.value
+    (generate_seen c.in-Ok.options) c.in-Ok.ensures.answer c.in_default.ensures c.in-Ok-generate.formula.formula c.in-Ok-generate.ensures c.of-sizes.ensures.valid c.of-sizes.result c.of-sizes.ensures.value
     c.in-Ok-simplify.swept c.in-Ok-simplify.ensures.swept c.in-Ok-simplify.ensures.pairs c.in-Ok-simplify.ensures.unspent c.print_counts.result c.print_counts.ensures (sym c.is_err.ensures.value ∙ c.if-is_err.true)
 
 pub returns-clause-written : goal.returns-clause-written
 returns-clause-written g c =
     prints-summary (map string_bytes c.args.words.now) (g.D.Desk.port c.args.desk.now) (g.D.Desk.port c.bind_generate.new.desk) (g.D.Desk.port c.print_counts.new.desk)
-    (generate_seen c.in-Ok.options) c.in-Ok.ensures.answer c.in_default.ensures c.in-Ok-generate.formula.formula c.in-Ok-generate.ensures c.sizes_of-sizes.ensures.valid c.sizes_of-sizes.result c.sizes_of-sizes.ensures.value
+    (generate_seen c.in-Ok.options) c.in-Ok.ensures.answer c.in_default.ensures c.in-Ok-generate.formula.formula c.in-Ok-generate.ensures c.of-sizes.ensures.valid c.of-sizes.result c.of-sizes.ensures.value
     c.in-Ok-simplify.swept c.in-Ok-simplify.ensures.swept c.in-Ok-simplify.ensures.pairs c.in-Ok-simplify.ensures.unspent c.print_counts.result c.print_counts.ensures (sym c.is_err.ensures.value ∙ c.if-is_err.false)

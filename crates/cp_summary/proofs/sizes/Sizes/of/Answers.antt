@@ -16,7 +16,7 @@ loop-number-preserved c =
     let sum : literals_in c.loop-number._number-iterator ≡ length c.in-Some.clause.now + literals_in c.next.new.self = ap literals_in c.in-Some.ensures.steps in
     record { few = omega arith; whole = omega arith }
 
-pub returns : goal.returns
-returns c =
+pub returns-clause-value : goal.returns-clause-value
+returns-clause-value c =
     let none : literals_in c.loop-number._number-iterator ≡ 0 = ap literals_in c.in-None.ensures.steps.0 in
     same_sizes c.args.formula.now.formula c.vars.result c.len-clauses.result c.loop-number.literals c.vars.ensures.value c.len-clauses.ensures (omega arith)
