@@ -17,22 +17,9 @@ use std::alloc::{AllocError, Global};
 pub(crate) fn seconds_of_added(alloc: Global, entry: &Entry) -> Result<Vec<Clause>, AllocError>
     ensures { IfOk result (λ seconds. seconds.items ≡ clauses_of (new_clauses (entry_of entry.now))) }
 {
-    let mut seconds = Vec::new(alloc);
-    match entry {
-        Entry::Strengthen { new, .. } => seconds.push(new.clause.again()?)?,
-        Entry::Eliminate { new, .. } => return seconds_of(alloc, new),
-        _ => {}
-    }
-    Ok(seconds)
-}
-
-// A second clause of each of the list.
-fn seconds_of(alloc: Global, list: &NamedList) -> Result<Vec<Clause>, AllocError>
-    ensures { IfOk result (λ seconds. seconds.items ≡ clauses_of list.now.items) }
-{
-    let mut seconds = Vec::new(alloc);
-    seconds.reserve(list.len())?;
-    for named in list.as_slice() {
+    let added = entry.new_clauses();
+    let mut seconds = Vec::with_capacity(alloc, added.len())?;
+    for named in added {
         seconds.push(named.clause.again()?)?;
     }
     Ok(seconds)
@@ -140,18 +127,7 @@ pub(crate) fn first_empty(formula: &Formula) -> Option<u64>
 pub(crate) fn empty_added(entry: &Entry) -> Option<u64>
     ensures { result ≡ least_empty (new_clauses (entry_of entry.now)) }
 {
-    match entry {
-        Entry::Strengthen { new, .. } if new.clause.lits().is_empty() => Some(new.number),
-        Entry::Eliminate { new, .. } => first_empty_of(new),
-        _ => None,
-    }
-}
-
-// The number of the first empty clause of the list, if it has one.
-fn first_empty_of(list: &NamedList) -> Option<u64>
-    ensures { result ≡ least_empty list.now.items }
-{
-    for named in list.as_slice() {
+    for named in entry.new_clauses() {
         if named.clause.lits().is_empty() {
             return Some(named.number);
         }

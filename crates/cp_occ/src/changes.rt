@@ -3,7 +3,7 @@ ghost use Rattle.std.specs.Prelude.{◌≡◌, ◌<◌, ◌≤◌, ◌++◌, [],
 ghost use Rattle.std.specs.List.{All};
 ghost use Rattle.cp_logic.specs.Clauses.{contains, has_variable, IsAscending};
 ghost use Rattle.cp_logic.specs.Formulas.{numbers_of, occurrences};
-ghost use Rattle.cp_logic.specs.Entries.{gone_clauses, new_clauses};
+ghost use Rattle.cp_logic.specs.Entries.{new_clauses};
 ghost use Rattle.cp_logic.specs.Views.{entry_of};
 ghost use Rattle.cp_occ.specs.Cells.{variables_after, variables_of, lists_of};
 ghost use Rattle.cp_occ.specs.Changes.{AreOver, places_of, HasRoom, IsChange, lists_after, IsRoomier, IsWithout, IsWith, IsChanged, Each};
@@ -15,7 +15,6 @@ use crate::variables::Variables;
 use cp_logic::{Clause, Entry, Named};
 use std::alloc::{AllocError, Global};
 use std::marker::Model;
-use std::slice;
 
 // Places of one clause, seen as the list of what stands there.
 #[derive(Drop)]
@@ -57,7 +56,7 @@ impl Cells {
         ensures places { IfOk result (λ p. p ≡ places_of (entry_of entry.now)) }
         ensures room { OnOk result (HasRoom self.new.items (entry_of entry.now)) }
     {
-        let added = added_by(entry);
+        let added = entry.new_clauses();
         make_room_for_all(self.cells.as_mut_slice(), added)?;
         Ok(Prepared {
             places: places_of_all(alloc, added)?,
@@ -75,40 +74,14 @@ impl Cells {
         ensures lists { lists_of self.new.items ≡ lists_after self.old.items (entry_of entry.now) }
         ensures spare { self.new.spare ≡ self.old.spare }
     {
-        let (first, second) = gone_by(entry);
+        let (first, second) = entry.gone_clauses();
         change(
             self.cells.as_mut_slice(),
             first,
             second,
-            added_by(entry),
+            entry.new_clauses(),
             prepared.places,
         );
-    }
-}
-
-// The clauses that the entry adds.
-fn added_by(entry: &Entry) -> &[Named]
-    ensures { result.now ≡ new_clauses (entry_of entry.now) }
-{
-    match entry {
-        Entry::Strengthen { new, .. } => slice::from_ref(new),
-        Entry::Eliminate { new, .. } => new.as_slice(),
-        Entry::Taut { .. } | Entry::Subsume { .. } | Entry::Block { .. } | Entry::Look { .. } =>
-            &[],
-    }
-}
-
-// The clauses that the entry removes, in two parts.
-fn gone_by(entry: &Entry) -> (&[Named], &[Named])
-    ensures { result.0.now ++ result.1.now ≡ gone_clauses (entry_of entry.now) }
-{
-    match entry {
-        Entry::Taut { gone } | Entry::Subsume { gone, .. } | Entry::Block { gone, .. } => {
-            (slice::from_ref(gone), &[])
-        }
-        Entry::Strengthen { on, .. } => (slice::from_ref(on), &[]),
-        Entry::Eliminate { pos, neg, .. } => (pos.as_slice(), neg.as_slice()),
-        Entry::Look { .. } => (&[], &[]),
     }
 }
 
