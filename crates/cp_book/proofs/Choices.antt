@@ -1,5 +1,5 @@
 -- The answer to an entry that passed the first tests, and why a book is stopped.
-use Rattle.std.proofs.Common.{◌≡◌, Bool, false, cond, length, Some, None, sym, ◌∙◌, ap}
+use Rattle.std.proofs.Common.{◌≡◌, ℕ, Bool, false, cond, length, Some, None, Result, Ok, Err, is_err, refl, sym, ◌∙◌, ap}
 use Rattle.std.specs.Prelude.{is_some}
 use Rattle.cp_logic.specs.declared.settings.Stop.TheVariants.{Spent as StopSpent, Refuted as StopRefuted}
 use Rattle.cp_logic.specs.Entries.{Entry, numbered}
@@ -8,7 +8,9 @@ use Rattle.cp_logic.specs.Journals.{commits}
 use Rattle.cp_logic.specs.Sweeps.{is_spent}
 use Rattle.cp_book.specs.Empties.{least_empty}
 use Rattle.cp_book.specs.Views.{BookView, current, stop_in}
-use Rattle.cp_book.specs.Answers.{Answer, Posted, Spent, Numbers, Stale, unless_empty, passes_numbers, answer_to}
+use Rattle.cp_book.specs.declared.answers.PostAnswer.{PostAnswer}
+use Rattle.cp_book.specs.declared.answers.PostAnswer.TheVariants.{Refuted as HeldRefuted, Spent as HeldSpent, Numbers as HeldNumbers, Stale as HeldStale}
+use Rattle.cp_book.specs.Answers.{Answer, Posted, Spent, Numbers, Stale, given_answer, unless_empty, passes_numbers, answer_to}
 use Rattle.cp_book.proofs.EmptyFacts.{has_empty-least}
 
 -- the answer by what the tests give
@@ -30,3 +32,11 @@ pub stop-tested : (b : BookView) (empty spent : Bool) → is_some (least_empty (
 stop-tested b empty spent e s =
     sym (ap (λ t. cond t (Some StopRefuted) (cond (is_spent b.rules (commits b.posts)) (Some StopSpent) None)) (has_empty-least (current b).clauses ∙ e)
     ∙ ap (λ t. cond empty (Some StopRefuted) (cond t (Some StopSpent) None)) s)
+
+-- an answer that posts is no refusal
+pub posted-ok : (r : Result ℕ PostAnswer) (a : Answer) (n : ℕ) → given_answer r ≡ a → a ≡ Posted n → is_err r ≡ false
+posted-ok (Ok position) a n h p = refl
+posted-ok (Err (HeldRefuted empty entry)) a n h p = cc
+posted-ok (Err (HeldSpent len entry)) a n h p = cc
+posted-ok (Err (HeldNumbers next entry)) a n h p = cc
+posted-ok (Err (HeldStale entry)) a n h p = cc

@@ -1,5 +1,3 @@
-pub mod ReadFacts
-pub mod Matching
 pub mod Parents
 pub mod RuleRuns
 pub mod Standing

@@ -1,9 +1,9 @@
 -- Whether a list without a literal is a subset of another, by one pass over both.
 use Rattle.std.proofs.Common.{◌≡◌, ℕ, ◌+◌, ◌<◌, ◌≤◌, Bool, true, false, cond, not, ltb, eqb, List, [], ◌∷◌, length, get_or, drop, refl, sym, ◌∙◌, ap, subst, arith}
-use Rattle.std.proofs.lemmas.Bool.{ltb-true, ltb-false, ne_eqb, eq-eqb}
+use Rattle.std.proofs.lemmas.Bool.{ltb-true, ltb-false}
 use Rattle.cp_logic.specs.Clauses.{without, is_subset, IsAscending}
 use Rattle.cp_logic.proofs.Ascending.{IsAscending-filter}
-use Rattle.cp_logic.proofs.Merges.{subset-found, subset-later, subset-passed, drop-read, IsAscending-drop}
+use Rattle.cp_logic.proofs.Merges.{without-here, without-other, subset-found, subset-later, subset-passed, drop-read, IsAscending-drop}
 use Rattle.cp_book.specs.Passes.{literals_from}
 
 -- literals below the first of the smaller list do not count
@@ -37,13 +37,6 @@ from-head l (m ∷ ms) n ns e = go (ltb m l) refl e (from-head l ms n ns)
     go : (b : Bool) → ltb m l ≡ b → cond b (literals_from l ms) (m ∷ ms) ≡ n ∷ ns → (literals_from l ms ≡ n ∷ ns → l ≤ n) → l ≤ n
     go true q h more = more h
     go false q h more = let same : m ≡ n = head m n ms ns h in let low : l ≤ m = ltb-false m l q in omega arith
-
--- the lists without the literal at the head, or with it
-pub without-same : (l lit : ℕ) (ls : List ℕ) → l ≡ lit → without (l ∷ ls) lit ≡ without ls lit
-without-same l lit ls e = ap (λ b. cond (not b) (l ∷ without ls lit) (without ls lit)) (eq-eqb l lit e)
-
-pub without-other : (l lit : ℕ) (ls : List ℕ) → (l ≡ lit → ⊥) → without (l ∷ ls) lit ≡ l ∷ without ls lit
-without-other l lit ls e = ap (λ b. cond (not b) (l ∷ without ls lit) (without ls lit)) (ne_eqb l lit e)
 
 module _ (lit : ℕ) (l : ℕ) (ls rest : List ℕ) (a : IsAscending (l ∷ ls)) (r : IsAscending rest) (other : l ≡ lit → ⊥) where
   ascends : IsAscending (l ∷ without ls lit)
@@ -86,7 +79,7 @@ module _ (smaller : List ℕ) (lit : ℕ) (larger : List ℕ) (i : ℕ) (rest : 
 
   -- past the literal that is left out, past one that was found, and at one that is not there
   pub passing-same : x ≡ lit → Passing smaller lit larger (i + 1) rest
-  passing-same e = record { left = here ∙ ap (λ xs. is_subset xs rest) (without-same x lit (drop (i + 1) smaller) e); ascending = k.ascending }
+  passing-same e = record { left = here ∙ ap (λ xs. is_subset xs rest) (without-here x lit (drop (i + 1) smaller) e); ascending = k.ascending }
 
   pub passing-found : (m : ℕ) (ms : List ℕ) → (x ≡ lit → ⊥) → literals_from x rest ≡ m ∷ ms → m ≡ x → Passing smaller lit larger (i + 1) ms
   passing-found m ms other e s = record {

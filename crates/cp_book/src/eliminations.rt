@@ -10,7 +10,6 @@ ghost use Rattle.cp_logic.specs.Entries.{Eliminate};
 ghost use Rattle.cp_logic.specs.Legality.{same_named, same_list, same_clauses, clauses_with, has_tautology_at, is_blocked, resolvents, fits};
 ghost use Rattle.cp_book.specs.Passes.{resolvents_with};
 
-use crate::resolvents::is_resolvent;
 use cp_logic::{Clause, Formula, Lit, Named, NamedList};
 
 /// Whether a clause with the variable is a tautology.
@@ -120,9 +119,9 @@ fn after_resolvents<'a>(
     for other in others.as_slice() {
         if !clause.resolves_to_tautology(&other.clause, lit) {
             match rest.split_first() {
-                Some((first, more))
-                    if is_resolvent(first.clause.lits(), clause.lits(), other.clause.lits(), lit) =>
-                    { rest = more }
+                Some((first, more)) if first.clause.is_resolvent(clause, &other.clause, lit) => {
+                    rest = more
+                }
                 _ => return None,
             }
         }

@@ -10,7 +10,6 @@ mod book;
 mod changes;
 mod eliminations;
 mod legality;
-mod resolvents;
 #[cfg(test)]
 mod tests;
 

@@ -77,10 +77,10 @@ clause_of-cons l us vs split here back above =
     (λ z i. elim (split z (of_clause_of us z i)) [ inl e ↦ in_here z l (clause_of vs) e | inr j ↦ in_later z l (clause_of vs) (in_clause_of vs z j) ])
     (λ z i. elim (in_cases z l (clause_of vs) i) [ inl e ↦ subst (Contains (clause_of us)) e (in_clause_of us l here) | inr j ↦ in_clause_of us z (back z (of_clause_of vs z j)) ])
 
-without-here : (x l : ℕ) (xs : List ℕ) → x ≡ l → without (x ∷ xs) l ≡ without xs l
+pub without-here : (x l : ℕ) (xs : List ℕ) → x ≡ l → without (x ∷ xs) l ≡ without xs l
 without-here x l xs e = rw (eq-eqb x l e)
 
-without-other : (x l : ℕ) (xs : List ℕ) → (x ≡ l → ⊥) → without (x ∷ xs) l ≡ x ∷ without xs l
+pub without-other : (x l : ℕ) (xs : List ℕ) → (x ≡ l → ⊥) → without (x ∷ xs) l ≡ x ∷ without xs l
 without-other x l xs n = rw (ne_eqb x l n)
 
 pub resolvent-left_pivot : (p x : ℕ) (xs ys : List ℕ) → x ≡ p → resolvent p (x ∷ xs) ys ≡ resolvent p xs ys

@@ -7,7 +7,7 @@ use Rattle.cp_logic.specs.Clauses.{resolvent, IsAscending}
 use Rattle.cp_logic.specs.Legality.{same_literals}
 use Rattle.cp_logic.proofs.Parts.{literals_decides}
 use Rattle.cp_logic.proofs.Merges.{Merging, merge-all, merge-left, merge-right, merge-both, within-read, read_same, take-read}
-use Rattle.cp_book.proofs.ReadFacts.{take-whole, length-taken, read-behind}
+use Rattle.cp_logic.proofs.ReadFacts.{take-whole, length-taken, read-behind}
 
 -- the first literals of the clause are those of the merge so far
 pub record Matching (clause : List ℕ) (pivot : ℕ) (left right : List ℕ) (i j k : ℕ) : Type 0 where

@@ -1,7 +1,7 @@
 use Rattle.std.proofs.Common.{◌∙◌, sym, inl, inr, arith}
 use Rattle.cp_logic.proofs.Clashes.{least-of, unclashed-next, unclashed-found, unclashed-all}
-use Rattle.cp_logic.proofs.clauses.merges_to_tautology.Goals as goal
-use Rattle.cp_logic.proofs.clauses.merges_to_tautology.Goals.{then-i-left, else-i-left+then-j-right, then-other-one, else-other-one}
+use Rattle.cp_logic.proofs.passes.merges_to_tautology.Goals as goal
+use Rattle.cp_logic.proofs.passes.merges_to_tautology.Goals.{then-i-left, else-i-left+then-j-right, then-other-one, else-other-one}
 
 pub returns-then-least-last : goal.returns-then-least-last
 returns-then-least-last c =

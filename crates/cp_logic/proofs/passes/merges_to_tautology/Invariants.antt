@@ -1,6 +1,6 @@
 use Rattle.std.proofs.Common.{◌+◌, ◌-◌, length}
 use Rattle.cp_logic.proofs.Clashes.{Unclashed}
-use Rattle.cp_logic.proofs.clauses.merges_to_tautology.Given as goal
+use Rattle.cp_logic.proofs.passes.merges_to_tautology.Given as goal
 
 abbrev pub invariant-loop-i : goal.invariant-loop-i
 invariant-loop-i l = Unclashed l.fn.pivot l.left l.right l.i l.j l.last

@@ -1,7 +1,7 @@
 use Rattle.std.proofs.Common.{◌≡◌, ◌<◌, ◌+◌, ◌++◌, ◌∷◌, [], ◌∙◌, ℕ, List, get_or, sym, ap, subst, arith}
 use Rattle.cp_logic.proofs.Merges.{Merging, merge-none, merge-all, merge-left_pivot, merge-right_pivot, merge-both, merge-left, merge-right, within-read, read_same}
-use Rattle.cp_logic.proofs.clauses.merged.Goals as goal
-use Rattle.cp_logic.proofs.clauses.merged.Goals.{then-i-left, else-i-left+then-j-right}
+use Rattle.cp_logic.proofs.passes.merged.Goals as goal
+use Rattle.cp_logic.proofs.passes.merged.Goals.{then-i-left, else-i-left+then-j-right}
 
 -- the literal that was read and pushed
 pushed : (pivot : ℕ) (left right xs : List ℕ) (i j k x : ℕ) (done new : List ℕ) → get_or xs k 4000002 < 4000002 → x ≡ get_or xs k x → new ≡ done ++ x ∷ []

@@ -1,0 +1,127 @@
+//! Passes over two clauses at once, which meet the literals of their resolvent in ascending order. Only the first of them builds it.
+ghost use Rattle.std.specs.Prelude.{◌≡◌, ◌<◌, ◌≤◌, length, slice_index_or, IfOk};
+ghost use Rattle.cp_logic.specs.Clauses.{is_tautology, resolvent, IsAscending};
+ghost use Rattle.cp_logic.specs.Legality.{same_literals};
+
+use crate::lits::Lit;
+use smallvec::SmallVec;
+use std::alloc::{AllocError, Global};
+
+/// The literals of two clauses, of the first without the pivot and of the second without its negation.
+pub(crate) fn merged(
+    alloc: Global,
+    left: &[Lit],
+    right: &[Lit],
+    pivot: Lit,
+) -> Result<SmallVec<Lit, 4>, AllocError>
+    requires left { IsAscending left.now }
+    requires right { IsAscending right.now }
+    ensures { IfOk result (λ list. list.items ≡ resolvent pivot left.now right.now) }
+{
+    let positive = pivot.code();
+    let negative = pivot.negated().code();
+    let mut all = SmallVec::new(alloc);
+    let mut i = 0;
+    let mut j = 0;
+    while i < left.len() || j < right.len() {
+        let first = code_at(left, i);
+        let second = code_at(right, j);
+        if first == positive {
+            i += 1;
+        } else if second == negative {
+            j += 1;
+        } else if first == second {
+            all.push(left[i])?;
+            i += 1;
+            j += 1;
+        } else if first < second {
+            all.push(left[i])?;
+            i += 1;
+        } else {
+            all.push(right[j])?;
+            j += 1;
+        }
+    }
+    Ok(all)
+}
+
+/// Whether the literals of two clauses, of the first without the pivot and of the second without its negation, have a variable in
+/// both signs. In a merge its two literals are neighbours.
+pub(crate) fn merges_to_tautology(left: &[Lit], right: &[Lit], pivot: Lit) -> bool
+    requires left { IsAscending left.now }
+    requires right { IsAscending right.now }
+    ensures { result ≡ is_tautology (resolvent pivot left.now right.now) }
+{
+    let positive = pivot.code();
+    let negative = pivot.negated().code();
+    let mut i = 0;
+    let mut j = 0;
+    let mut last = 0;
+    while i < left.len() || j < right.len() {
+        let one = code_at(left, i);
+        let other = code_at(right, j);
+        if one == positive {
+            i += 1;
+        } else if other == negative {
+            j += 1;
+        } else {
+            let least = if other < one { other } else { one };
+            if least / 2 == last {
+                return true;
+            }
+            last = least / 2;
+            i += usize::from(one == least);
+            j += usize::from(other == least);
+        }
+    }
+    false
+}
+
+/// Whether the literals are those of the first clause without the pivot and of the second without its negation, in
+/// ascending order.
+pub(crate) fn is_merge(clause: &[Lit], left: &[Lit], right: &[Lit], pivot: Lit) -> bool
+    requires left { IsAscending left.now }
+    requires right { IsAscending right.now }
+    ensures { result ≡ same_literals clause.now (resolvent pivot left.now right.now) }
+{
+    let positive = pivot.code();
+    let negative = pivot.negated().code();
+    let mut i = 0;
+    let mut j = 0;
+    let mut k = 0;
+    while i < left.len() || j < right.len() {
+        let one = code_at(left, i);
+        let other = code_at(right, j);
+        if one == positive {
+            i += 1;
+        } else if other == negative {
+            j += 1;
+        } else {
+            if code_at(clause, k) != one.min(other) {
+                return false;
+            }
+            k += 1;
+            if one <= other {
+                i += 1;
+            }
+            if other <= one {
+                j += 1;
+            }
+        }
+    }
+    k == clause.len()
+}
+
+// The code of the literal at the index, or a number above all codes past the end.
+fn code_at(lits: &[Lit], i: usize) -> u32
+    ensures value { result ≡ slice_index_or lits.now i 4000002 }
+    ensures low { i < length lits.now → result < 4000002 }
+    ensures high { result ≤ 4000002 }
+    ensures literal { 2 ≤ result }
+{
+    if i < lits.len() {
+        lits[i].code()
+    } else {
+        2 * Lit::MOST_VARIABLES + 2
+    }
+}
