@@ -25,7 +25,7 @@ use std::mem;
 use std::snapshot::Snapshot;
 
 // The largest number that the next clause may have: no clause has it, or one above it.
-const NUMBER_LIMIT: u64 = 1_099_511_627_776;
+const NUMBER_LIMIT: u64 = 1 << 40;
 
 /// A first formula, the rules of a run, and a journal that is legal from that formula.
 ///
@@ -204,16 +204,8 @@ impl Book {
         ensures now { IsFormula (current self.now) }
         ensures journal { IsLegalJournal self.now.first self.now.rules self.now.posts }
     {
+        // That what the posts lead to is a formula is a clause of this call.
         let _ = self.formula.vars();
-    }
-
-    /// The journal and the stack. What else the book has is dropped.
-    pub fn into_parts(self) -> (Journal, Stack)
-        ensures posts { result.0.items ≡ self.posts }
-        ensures pairs { pairs_of result.1.pairs ≡ current_pairs self }
-        ensures variables { result.1.vars ≡ self.first.variables }
-    {
-        (self.journal, self.stack)
     }
 
     /// The current clauses, the journal and the stack, with no copy made.

@@ -71,7 +71,7 @@ pub(crate) fn apply(formula: &mut Formula, stack: &mut Stack, entry: &Entry, sec
 // Adds the clauses, each under the next number.
 fn push_all(formula: &mut Formula, clauses: Vec<Clause>)
     requires spare { length clauses.items ≤ formula.old.spare }
-    requires numbers { formula.old.formula.next + length clauses.items ≤ 2 ^ 40 }
+    requires numbers { formula.old.formula.next + length clauses.items ≤ number_limit }
     requires within { All (IsWithin formula.old.formula.variables) clauses.items }
     ensures { formula.new.formula ≡ with_all formula.old.formula clauses.items }
 {
@@ -90,6 +90,7 @@ fn weaken_all(formula: &mut Formula, stack: &mut Stack, gone: &NamedList, var: u
     ensures room { stack.new.pairs.spare + length gone.now.items ≡ stack.old.pairs.spare }
 {
     for named in gone.as_slice() {
+        // That it is a formula, whose numbers ascend, is a clause of this call.
         let _ = formula.vars();
         weaken(formula, stack, named, Lit::new(var, sign));
     }
@@ -104,6 +105,7 @@ fn weaken(formula: &mut Formula, stack: &mut Stack, gone: &Named, lit: Lit)
     ensures variables { stack.new.vars ≡ stack.old.vars }
     ensures room { stack.new.pairs.spare + 1 ≡ stack.old.pairs.spare }
 {
+    // That it is a formula, whose numbers ascend, is a clause of this call.
     let _ = formula.vars();
     match formula.remove(gone.number) {
         Some(clause) => stack.push_reserved(Pair::new(lit, clause)),

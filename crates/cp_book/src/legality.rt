@@ -100,6 +100,7 @@ fn are_two(formula: &Formula, one: &Named, other: &Named) -> bool
 fn stands(formula: &Formula, named: &Named) -> bool
     ensures { result ≡ stands formula.now.formula.clauses named.now }
 {
+    // That it is a formula, whose numbers ascend, is a clause of this call.
     let _ = formula.vars();
     match formula.get(named.number) {
         Some(clause) => named.clause.lits() == clause.lits(),
