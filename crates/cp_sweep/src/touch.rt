@@ -15,20 +15,10 @@ pub(crate) fn touch(touched: &mut Marks, entry: &Entry)
     requires { AreBelow (length touched.old) (touched_by (entry_of entry.now)) }
     ensures { touched.new ≡ with_marks touched.old (touched_by (entry_of entry.now)) }
 {
-    match entry {
-        Entry::Taut { gone } | Entry::Subsume { gone, .. } | Entry::Block { gone, .. } =>
-            touch_clause(touched, gone),
-        Entry::Strengthen { on, new, .. } => {
-            touch_clause(touched, on);
-            touch_clause(touched, new);
-        }
-        Entry::Eliminate { pos, neg, new, .. } => {
-            touch_all(touched, pos.as_slice());
-            touch_all(touched, neg.as_slice());
-            touch_all(touched, new.as_slice());
-        }
-        Entry::Look { .. } => {}
-    }
+    let (first, second) = entry.gone_clauses();
+    touch_all(touched, first);
+    touch_all(touched, second);
+    touch_all(touched, entry.new_clauses());
 }
 
 // Marks the variables of the clauses.
