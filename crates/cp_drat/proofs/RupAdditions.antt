@@ -7,7 +7,7 @@ use Rattle.std.proofs.lemmas.List.Elements.{Contains-append_left}
 use Rattle.cp_logic.specs.declared.named.Named.{Named}
 use Rattle.cp_logic.specs.declared.settings.Rules.{Rules}
 use Rattle.cp_logic.specs.Literals.{negated, positive, negative}
-use Rattle.cp_logic.specs.Clauses.{contains, without, resolvent, IsAscending}
+use Rattle.cp_logic.specs.Clauses.{contains, resolvent, IsAscending}
 use Rattle.cp_logic.specs.Propagation.{falsified, unit, IsRup}
 use Rattle.cp_logic.specs.Formulas.{Formula, IsFormula, clauses_of}
 use Rattle.cp_logic.specs.Rules.{Rule, Add, Drop, Weaken, State, applied, state_after}
@@ -15,9 +15,9 @@ use Rattle.cp_logic.specs.Entries.{Entry, Taut, Subsume, Strengthen, Block, Elim
 use Rattle.cp_logic.specs.Legality.{is_legal_in}
 use Rattle.cp_logic.specs.Journals.{Post, IsLegalJournal, expansion, folded, start_of}
 use Rattle.cp_logic.proofs.Members.{in_here, in_later, contains-in, in_contains}
-use Rattle.cp_logic.proofs.SetFacts.{difference_none, difference_one, in_without, subset-in, in_resolvent_left, in_resolvent_right}
-use Rattle.cp_logic.proofs.Parts.{IsStrengthen, IsEliminate, strengthen-parts, eliminate-parts}
-use Rattle.cp_logic.proofs.Expansions.{in_clauses, ascending_at}
+use Rattle.cp_logic.proofs.SetFacts.{difference_none, difference_one, in_without, in_resolvent_left, in_resolvent_right}
+use Rattle.cp_logic.proofs.Parts.{IsEliminate, strengthen-parts, eliminate-parts}
+use Rattle.cp_logic.proofs.Expansions.{in_clauses, ascending_at, strengthen-rup}
 use Rattle.cp_logic.proofs.Eliminations.{rup-larger, of_pos, of_neg, of_new}
 use Rattle.cp_logic.proofs.EntryRuns.{legal-in}
 use Rattle.cp_logic.proofs.JournalRuns.{take-one_more, take-whole, expansion-push, valid_to}
@@ -51,13 +51,6 @@ resolved-rup clauses a d l r i j ascending has left right = elim (cases_Bool (co
         | inr n ↦ in_later x (negated l) r (right x k n)
       ]))))
 ]
-
-strengthen-rup : (f : Formula) (by on : Named) (l : ℕ) (new : Named) → IsFormula f → IsStrengthen f.clauses by on l new → IsRup (clauses_of f.clauses) new.clause
-strengthen-rup f by on l new v p =
-    resolved-rup (clauses_of f.clauses) on.clause by.clause l new.clause (in_clauses f.clauses on p.on_in) (in_clauses f.clauses by p.by_in)
-    (ascending_at f on v p.on_in) (contains-in on.clause l p.on_has)
-    (λ x k n. subst (λ c. Contains c x) (sym p.is_new) (in_without on.clause l x k n))
-    (λ x k n. subset-in (without by.clause (negated l)) new.clause p.subset x (in_without by.clause (negated l) x k n))
 
 new-rup : (s : State) (v : IsFormula s.formula) (bound x : ℕ) (pos neg new : List Named) → IsEliminate s.formula.clauses bound x pos neg new → (c : Named) → Contains new c
     → IsRup (clauses_of s.formula.clauses) c.clause

@@ -1,5 +1,5 @@
 -- The eliminations of the tests, computed. The literals 1, -1, 2, -2, .. have the codes 2, 3, 4, 5, ..
-use Rattle.std.proofs.Common.{◌≡◌, ℕ, Bool, true, List, [], ◌∷◌, length, refl, sym, ap, ◌∙◌, subst, arith}
+use Rattle.std.proofs.Common.{◌≡◌, ℕ, Bool, true, List, [], ◌∷◌, length, refl, ap, ◌∙◌, subst, arith}
 use Rattle.std.specs.Prelude.{Some, IsTrue, ◌&&◌, ◌==◌}
 use Rattle.std.specs.List.{slice_get}
 use Rattle.std.proofs.lemmas.Bool.{eq-eqb}
@@ -11,7 +11,6 @@ use Rattle.cp_logic.specs.Entries.{Entry, Eliminate, is_at}
 use Rattle.cp_logic.specs.Legality.{fits, is_legal_in}
 use Rattle.cp_occ.specs.Cells.{CellView}
 use Rattle.cp_hood.specs.Hoods.{HoodView, IsLegalAt, centre_clauses}
-use Rattle.cp_hood.specs.Commits.{IsSameHood}
 use Rattle.cp_hood.specs.Examples.{Eliminates, IsLegalFor}
 
 one_of : {A : Type 0} (xs : List A) (a : A) → length xs ≡ 1 → slice_get xs 0 ≡ Some a → xs ≡ a ∷ []
@@ -92,10 +91,4 @@ pub legal-centre : (rules : Rules) (cell : CellView) (hood : HoodView) (e : Entr
 legal-centre rules cell hood e chosen v cs legal = record {
   at = subst (λ x. IsTrue (is_at x e)) v legal.0;
   legal = subst (λ ds. IsTrue (is_legal_in ds rules e)) cs (legal.1 rules chosen);
-}
-
-pub legal-same : (rules : Rules) (old new : HoodView) (e : Entry) → IsSameHood old new → IsLegalAt rules old e → IsLegalAt rules new e
-legal-same rules old new e same legal = record {
-  at = subst (λ x. IsTrue (is_at x e)) (sym same.centre) legal.at;
-  legal = subst (λ ds. IsTrue (is_legal_in ds rules e)) (sym same.clauses) legal.legal;
 }

@@ -24,7 +24,8 @@ use Rattle.cp_occ.specs.Changes.{IsChange, lists_after}
 use Rattle.cp_occ.proofs.Posted.{new-numbers, new-rise}
 use Rattle.cp_yard.specs.Views.{Lock, held_of, locks_after}
 use Rattle.cp_yard.specs.Rule.{HoldsAll}
-use Rattle.cp_hood.specs.Hoods.{HoodView, IsHood, Covers, AreOccurrences, listed_of, clauses_at_home}
+use Rattle.cp_hood.specs.Hoods.{HoodView, IsHood, IsLegalAt, Covers, AreOccurrences, listed_of, clauses_at_home}
+use Rattle.cp_hood.specs.Commits.{IsSameHood}
 use Rattle.cp_hood.proofs.Centred.{in_variables, of_variables, old-in, old-over, new-over, entry-over, at-commit}
 
 -- ---- what cells list
@@ -230,3 +231,10 @@ Covers-after e x old new here covers over v l = λ y t. subst (λ vs. contains v
               let added = (of_filter _ (new_clauses e) m.0 o).0 in
               subst (λ z. contains (variables_of old) z ≡ true) m.4 (All-contains (λ l. IsTrue (contains (variables_of old) (variable_of l))) m.0.clause m.1 (over m.0 added) m.3)
         ]
+
+-- hoods that list the same
+pub legal-same : (rules : Rules) (old new : HoodView) (e : Entry) → IsSameHood old new → IsLegalAt rules old e → IsLegalAt rules new e
+legal-same rules old new e same legal = record {
+  at = subst (λ x. IsTrue (is_at x e)) (sym same.centre) legal.at;
+  legal = subst (λ ds. IsTrue (is_legal_in ds rules e)) (sym same.clauses) legal.legal;
+}

@@ -1,5 +1,5 @@
 -- A seat that tries the turn, has it and ends it; and when a book posts an entry.
-use Rattle.std.proofs.Common.{◌≡◌, ℕ, ◌+◌, ◌<◌, ◌≤◌, true, false, List, [], ◌∷◌, ◌++◌, length, get_or, Some, None, Result, Ok, Err, is_err, append_assoc, append-nil, refl, sym, ◌∙◌, ap, subst, arith}
+use Rattle.std.proofs.Common.{◌≡◌, ℕ, ◌+◌, ◌<◌, ◌≤◌, true, false, List, [], ◌∷◌, ◌++◌, length, get_or, Some, None, append_assoc, append-nil, refl, sym, ◌∙◌, ap, subst, arith}
 use Rattle.std.specs.Prelude.{is_some}
 use Rattle.std.specs.List.{All}
 use Rattle.std.proofs.lemmas.List.{map-append, get_or-map, length-map}
@@ -8,9 +8,7 @@ use Rattle.cp_logic.specs.Entries.{Entry, numbered}
 use Rattle.cp_logic.specs.Journals.{Post, commits}
 use Rattle.cp_logic.specs.Legality.{is_legal_in}
 use Rattle.cp_logic.specs.Sweeps.{is_spent}
-use Rattle.cp_book.specs.declared.answers.PostAnswer.{PostAnswer}
-use Rattle.cp_book.specs.declared.answers.PostAnswer.TheVariants.{Refuted as HeldRefuted, Spent as HeldSpent, Numbers as HeldNumbers, Stale as HeldStale}
-use Rattle.cp_book.specs.Answers.{Answer, Posted, given_answer, answer_to, passes_numbers}
+use Rattle.cp_book.specs.Answers.{Posted, answer_to, passes_numbers}
 use Rattle.cp_book.specs.Empties.{least_empty}
 use Rattle.cp_book.specs.Views.{BookView, current}
 use Rattle.cp_book.proofs.EmptyFacts.{has_empty-least}
@@ -78,14 +76,6 @@ module _ (v : SeatView) (met : List ℕ) where
   }
 
 -- ---- the book
-
--- an answer that posts is no refusal
-pub posted-ok : (r : Result ℕ PostAnswer) (a : Answer) (n : ℕ) → given_answer r ≡ a → a ≡ Posted n → is_err r ≡ false
-posted-ok (Ok position) a n h p = refl
-posted-ok (Err (HeldRefuted empty entry)) a n h p = cc
-posted-ok (Err (HeldSpent len entry)) a n h p = cc
-posted-ok (Err (HeldNumbers next entry)) a n h p = cc
-posted-ok (Err (HeldStale entry)) a n h p = cc
 
 -- where no clause is empty, there is no least number of one
 pub least-none : (f : Formula) → has_empty f.clauses ≡ false → least_empty f.clauses ≡ None

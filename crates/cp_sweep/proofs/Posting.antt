@@ -1,5 +1,5 @@
 -- The post of the entry that the search gave: the book takes it, and the cells follow.
-use Rattle.std.proofs.Common.{◌≡◌, ℕ, ◌+◌, Bool, true, false, cond, List, [], ◌∷◌, ◌++◌, length, Option, Some, None, Result, Ok, Err, is_err, refl, sym, ◌∙◌, ap, subst, arith}
+use Rattle.std.proofs.Common.{◌≡◌, ℕ, ◌+◌, Bool, true, false, cond, List, [], ◌∷◌, ◌++◌, length, Option, Some, None, refl, sym, ◌∙◌, ap, subst, arith}
 use Rattle.std.specs.Prelude.{is_some, nat_le}
 use Rattle.std.proofs.lemmas.Bool.Decides.{nat_tests}
 use Rattle.cp_logic.specs.declared.settings.Rules.{Rules}
@@ -11,9 +11,7 @@ use Rattle.cp_logic.specs.Legality.{is_legal}
 use Rattle.cp_logic.specs.Journals.{Post, folded, start_of, commits, number_limit}
 use Rattle.cp_logic.proofs.JournalRuns.{folded-push}
 use Rattle.cp_logic.specs.Sweeps.{is_spent}
-use Rattle.cp_book.specs.declared.answers.PostAnswer.{PostAnswer}
-use Rattle.cp_book.specs.declared.answers.PostAnswer.TheVariants.{Refuted as HeldRefuted, Spent as HeldSpent, Numbers as HeldNumbers, Stale as HeldStale}
-use Rattle.cp_book.specs.Answers.{Answer, Posted, given_answer, answer_to, passes_numbers}
+use Rattle.cp_book.specs.Answers.{Posted, answer_to, passes_numbers}
 use Rattle.cp_book.specs.Empties.{least_empty}
 use Rattle.cp_book.specs.Views.{BookView, current, stop_in, with_post}
 use Rattle.cp_book.proofs.EmptyFacts.{has_empty-least}
@@ -22,14 +20,6 @@ use Rattle.cp_occ.specs.Changes.{lists_after, AreCellsOf}
 use Rattle.cp_occ.proofs.Posted.{cells-after}
 use Rattle.cp_sweep.specs.Marks.{with_marks}
 use Rattle.cp_sweep.specs.Cursor.{Cursor, Turn, turn_for, touched_by, after_post, sweep_post}
-
--- an answer that posts is no refusal
-pub posted-ok : (r : Result ℕ PostAnswer) (a : Answer) (n : ℕ) → given_answer r ≡ a → a ≡ Posted n → is_err r ≡ false
-posted-ok (Ok position) a n h p = refl
-posted-ok (Err (HeldRefuted empty entry)) a n h p = cc
-posted-ok (Err (HeldSpent len entry)) a n h p = cc
-posted-ok (Err (HeldNumbers next entry)) a n h p = cc
-posted-ok (Err (HeldStale entry)) a n h p = cc
 
 no_least : (o : Option ℕ) → is_some o ≡ false → o ≡ None
 no_least None h = refl

@@ -1,5 +1,5 @@
 -- What a commit makes of the clauses of a hood's centre.
-use Rattle.std.proofs.Common.{◌≡◌, ◌<◌, ◌≤◌, ℕ, Option, Bool, true, false, cond, eqb, List, [], ◌∷◌, refl, sym, ◌∙◌, ap, subst, arith}
+use Rattle.std.proofs.Common.{◌≡◌, ◌<◌, ℕ, Option, Bool, true, false, cond, eqb, List, [], ◌∷◌, refl, sym, ◌∙◌, ap, subst}
 use Rattle.std.proofs.lemmas.Bool.{eqb-true, false≢true}
 use Rattle.std.specs.Prelude.{Some}
 use Rattle.cp_logic.specs.declared.named.Named.{Named}
@@ -11,14 +11,10 @@ use Rattle.cp_logic.proofs.Complete.{nothing-missed, applies-numbered, is_at-num
 use Rattle.cp_occ.specs.Cells.{CellView, variables_of, lists_of}
 use Rattle.cp_occ.specs.Changes.{lists_after}
 use Rattle.cp_hood.specs.Hoods.{HoodView, clauses_at_home, centre_clauses, IsLegalAt}
-use Rattle.cp_hood.specs.Hoods.{listed_of, HoldsJust}
 use Rattle.cp_hood.specs.Commits.{IsHoodAfter, IsSameHood}
-use Rattle.cp_yard.specs.Views.{SeatView}
 use Rattle.cp_logic.specs.declared.entries.Entry.{Entry as HeldEntry}
 use Rattle.cp_logic.specs.Views.{entry_of}
-use Rattle.std.specs.List.{All}
 use Rattle.std.specs.Option.{option_map}
-use Rattle.std.proofs.lemmas.List.Elements.{All-nil, All-cons, All-tail}
 use Rattle.cp_worker.proofs.Sizes.{size, smaller, some}
 
 head_of : {X : Type 0} (x y : X) (xs ys : List X) → x ∷ xs ≡ y ∷ ys → x ≡ y
@@ -82,30 +78,6 @@ found-at h cell given rules o v cs r e = sym (e ∙ ap (λ (z : List Named). fir
 
 -- ---- hoods that list the same
 
-listed-same : (x : ℕ) (old new : List CellView) → variables_of new ≡ variables_of old → lists_of new ≡ lists_of old → listed_of x new ≡ listed_of x old
-listed-same x [] [] v l = refl
-listed-same x [] (d ∷ ds) v l = absurd (cc)
-listed-same x (c ∷ cs) [] v l = absurd (cc)
-listed-same x (c ∷ cs) (d ∷ ds) v l =
-    let h : d.variable ≡ c.variable = head_of d.variable c.variable (variables_of ds) (variables_of cs) v in
-    let k : d.clauses ≡ c.clauses = head_of d.clauses c.clauses (lists_of ds) (lists_of cs) l in
-    let r : listed_of x ds ≡ listed_of x cs =
-    listed-same x cs ds (tail_of d.variable c.variable (variables_of ds) (variables_of cs) v) (tail_of d.clauses c.clauses (lists_of ds) (lists_of cs) l) in
-    ap (λ z. cond (eqb z x) (Some d.clauses) (listed_of x ds)) h ∙ ap (λ (z : List Named). cond (eqb c.variable x) (Some z) (listed_of x ds)) k
-    ∙ ap (λ (z : Option (List Named)). cond (eqb c.variable x) (Some c.clauses) z) r
-
-home-same : (x : ℕ) (old new : List CellView) → variables_of new ≡ variables_of old → lists_of new ≡ lists_of old → clauses_at_home x new ≡ clauses_at_home x old
-home-same x [] [] v l = refl
-home-same x [] (d ∷ ds) v l = absurd (cc)
-home-same x (c ∷ cs) [] v l = absurd (cc)
-home-same x (c ∷ cs) (d ∷ ds) v l =
-    let h : d.variable ≡ c.variable = head_of d.variable c.variable (variables_of ds) (variables_of cs) v in
-    let k : d.clauses ≡ c.clauses = head_of d.clauses c.clauses (lists_of ds) (lists_of cs) l in
-    let r : clauses_at_home x ds ≡ clauses_at_home x cs =
-    home-same x cs ds (tail_of d.variable c.variable (variables_of ds) (variables_of cs) v) (tail_of d.clauses c.clauses (lists_of ds) (lists_of cs) l) in
-    ap (λ z. cond (eqb z x) d.clauses (clauses_at_home x ds)) h ∙ ap (λ (z : List Named). cond (eqb c.variable x) z (clauses_at_home x ds)) k
-    ∙ ap (λ (z : List Named). cond (eqb c.variable x) c.clauses z) r
-
 after-same : (e : Entry) (old new : List CellView) → variables_of new ≡ variables_of old → lists_of new ≡ lists_of old → lists_after new e ≡ lists_after old e
 after-same e [] [] v l = refl
 after-same e [] (d ∷ ds) v l = absurd (cc)
@@ -116,30 +88,6 @@ after-same e (c ∷ cs) (d ∷ ds) v l =
     let r : lists_after ds e ≡ lists_after cs e =
     after-same e cs ds (tail_of d.variable c.variable (variables_of ds) (variables_of cs) v) (tail_of d.clauses c.clauses (lists_of ds) (lists_of cs) l) in
     ap (λ z. after d.clauses z e ∷ lists_after ds e) h ∙ ap (λ (z : List Named). after z c.variable e ∷ lists_after ds e) k ∙ ap (λ (zs : List (List Named)). after c.clauses c.variable e ∷ zs) r
-
-range-same : (n : ℕ) (old new : List CellView) → variables_of new ≡ variables_of old → All (λ (c : CellView). c.variable ≤ n) old → All (λ (c : CellView). c.variable ≤ n) new
-range-same n old [] v a = All-nil (λ (c : CellView). c.variable ≤ n)
-range-same n [] (d ∷ ds) v a = absurd (cc)
-range-same n (c ∷ cs) (d ∷ ds) v a =
-    let h : d.variable ≡ c.variable = head_of d.variable c.variable (variables_of ds) (variables_of cs) v in
-    let f : c.variable ≤ n = a 0 c (omega arith) in
-    All-cons (λ (z : CellView). z.variable ≤ n) d ds (omega arith)
-    (range-same n cs ds (tail_of d.variable c.variable (variables_of ds) (variables_of cs) v) (All-tail (λ (z : CellView). z.variable ≤ n) c cs a))
-
-pub HoldsJust-same : (v : SeatView) (old new : HoodView) → IsSameHood old new → HoldsJust v old.cells → HoldsJust v new.cells
-HoldsJust-same v old new s h = record {
-  turn = h.turn;
-  range = range-same v.base.formula.variables old.cells new.cells s.variables h.range;
-  held = λ x. h.held x ∙ sym (listed-same x old.cells new.cells s.variables s.lists);
-}
-
-pub legal-same : (rules : Rules) (old new : HoodView) (e : Entry) → IsSameHood old new → IsLegalAt rules old e → IsLegalAt rules new e
-legal-same rules old new e s h =
-    let cs : centre_clauses new ≡ centre_clauses old = ap (λ z. clauses_at_home z new.cells) s.centre ∙ home-same old.centre old.cells new.cells s.variables s.lists in
-    record {
-      at = ap (λ z. is_at z e) s.centre ∙ h.at;
-      legal = ap (λ (z : List Named). is_legal_in z rules e) cs ∙ h.legal;
-    }
 
 pub after-prepared : (e : Entry) (old between new : HoodView) → IsSameHood old between → IsHoodAfter e between new → IsHoodAfter e old new
 after-prepared e old between new s h = record {

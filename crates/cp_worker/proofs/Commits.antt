@@ -141,11 +141,6 @@ refused-goes v w u x in_round cs now listed noted posted way go e =
 
 -- ---- a whole visit
 
-pub GoesOn-last : (u v w : SeatView) (ns : List Note) (ps : List (ℕ × Post)) → GoesOn u v ns ps → GoesOn v w [] [] → GoesOn u w ns ps
-GoesOn-last u v w ns ps g h =
-    subst (λ (ms : List Note). GoesOn u w ms ps) (append-nil ns)
-    (subst (GoesOn u w (ns ++ [])) (append-nil ps) (GoesOn-then u v w ns [] ps [] g h))
-
 -- one try more, which met a held lock
 pub tried_again : (u v w : SeatView) (x limit : ℕ) (held : List (List Note)) (notes : List Note) (var by : ℕ) → All (IsHeld x limit) held → GoesOn u v (notes_of held) [] → GoesOn v w notes [] → IsCut x limit notes var by
     → All (IsHeld x limit) (held ++ notes ∷ []) × GoesOn u w (notes_of (held ++ notes ∷ [])) []

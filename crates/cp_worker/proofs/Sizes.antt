@@ -1,5 +1,5 @@
 -- A commit at a variable lowers the size of the variable's clauses.
-use Rattle.std.proofs.Common.{◌≡◌, ℕ, ◌+◌, ◌<◌, ◌≤◌, Bool, true, false, List, [], ◌∷◌, ◌++◌, length, refl, sym, ◌∙◌, ap, subst, inl, inr, not, arith}
+use Rattle.std.proofs.Common.{◌≡◌, ℕ, ◌+◌, ◌<◌, ◌≤◌, true, false, List, [], ◌∷◌, ◌++◌, length, refl, sym, ◌∙◌, ap, subst, inl, inr, not, arith}
 use Rattle.std.specs.Prelude.{◌==◌, ◌&&◌, map}
 use Rattle.std.specs.List.{Contains, filter, flat_map}
 use Rattle.std.proofs.lemmas.Bool.{false≢true, and_from, eqb-true, eq-eqb, not_from_true}
@@ -12,10 +12,11 @@ use Rattle.cp_logic.specs.Formulas.{numbers_of, without_numbers, occurrences}
 use Rattle.cp_logic.specs.Entries.{Entry, Taut, Subsume, Strengthen, Block, Eliminate, Look, is_at}
 use Rattle.cp_logic.specs.Legality.{applies, resolvents}
 use Rattle.cp_logic.specs.Locality.{after}
-use Rattle.cp_logic.proofs.Members.{in_map, of_map, of_filter, of_flat_map, in_here, any_from, any_member, contains-in, in_contains}
+use Rattle.cp_logic.proofs.Members.{in_map, of_map, of_filter, of_flat_map, in_here, any_from, any_member, contains-in}
 use Rattle.cp_logic.proofs.LiteralFacts.{same_variable, variable_of-positive, negated-positive}
-use Rattle.cp_logic.proofs.SetFacts.{of_without, of_resolvent, tautology-from}
+use Rattle.cp_logic.proofs.SetFacts.{no_members, of_without, of_resolvent, tautology-from}
 use Rattle.cp_logic.proofs.Parts.{IsStrengthen, IsEliminate, taut-parts, subsume-parts, strengthen-parts, block-parts, eliminate-parts}
+use Rattle.cp_logic.proofs.Bounds.{tests, left_out}
 use Rattle.cp_logic.proofs.Totals.{total, total-append, total-filter, total-without, length-without}
 
 -- the clause's literals, and one more, so that each clause counts
@@ -24,12 +25,6 @@ literals c = length c.clause + 1
 
 abbrev pub size : List Named → ℕ
 size cs = total literals cs
-
-abbrev tests : List ℕ → Named → Bool
-tests ns c = not (contains ns c.number)
-
-left_out : (ns : List ℕ) (c : Named) → Contains ns c.number → tests ns c ≡ false
-left_out ns c i = not_from_true (contains ns c.number) (in_contains ns c.number i)
 
 -- a clause goes, and others come that are smaller together
 changed : (cs new : List Named) (ns : List ℕ) (x : ℕ) (gone : Named) → Contains cs gone → Contains ns gone.number → size new < literals gone
@@ -51,10 +46,6 @@ shortened cs x by on l new p =
     changed cs (new ∷ []) (on.number ∷ []) x on p.on_in (in_here on.number on.number [] refl) (omega arith)
 
 -- ---- eliminations
-
-nothing : {X : Type 0} (xs : List X) → ((z : X) → Contains xs z → ⊥) → xs ≡ []
-nothing [] h = refl
-nothing (x ∷ xs) h = absurd (h x (in_here x x xs refl))
 
 module _ (cs : List Named) (bound x : ℕ) (pos neg new : List Named) (p : IsEliminate cs bound x pos neg new) where
   in_cs : (l : ℕ) (part : List Named) → part ≡ filter (λ (c : Named). contains c.clause l) cs → (c : Named) → Contains part c → Contains cs c × Contains c.clause l
@@ -90,7 +81,7 @@ module _ (cs : List Named) (bound x : ℕ) (pos neg new : List Named) (p : IsEli
       ]
 
   none_new : occurrences new x ≡ []
-  none_new = nothing (occurrences new x) (λ c i.
+  none_new = no_members (occurrences new x) (λ c i.
       let r = of_filter (λ (d : Named). has_variable x d.clause) new c i in
       let l = any_member (λ k. variable_of k == x) c.clause r.1 in
       without_x c l.0 r.0 l.1 (eqb-true (variable_of l.0) x l.2))

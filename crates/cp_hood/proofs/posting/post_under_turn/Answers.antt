@@ -4,7 +4,7 @@ use Rattle.cp_logic.specs.Views.{entry_of}
 use Rattle.cp_book.specs.Answers.{answer_to}
 use Rattle.cp_book.specs.Views.{current}
 use Rattle.cp_hood.proofs.Following.{legal-change, HoldsAll-hood}
-use Rattle.cp_hood.proofs.Turns.{posted-ok}
+use Rattle.cp_book.proofs.Choices.{posted-ok}
 use Rattle.cp_hood.proofs.Outcomes.{on-ok, posts-made}
 use Rattle.cp_hood.proofs.posting.post_under_turn.Goals as goal
 

@@ -4,7 +4,8 @@ use Rattle.cp_logic.specs.declared.entries.Entry.{Entry as HeldEntry}
 use Rattle.cp_logic.specs.Views.{entry_of}
 use Rattle.cp_occ.specs.Cells.{CellView}
 use Rattle.cp_hood.specs.Examples.{IsLegalFor}
-use Rattle.cp_hood.proofs.Examples.{legal-centre, legal-same}
+use Rattle.cp_hood.proofs.Examples.{legal-centre}
+use Rattle.cp_hood.proofs.Following.{legal-same}
 use Rattle.cp_hood.proofs.tests.eliminate.Goals as goal
 
 found : (cell : CellView) (o : Option HeldEntry) (e : HeldEntry) → o ≡ Some e → IfSome o (λ f. IsLegalFor cell (entry_of f)) → IsLegalFor cell (entry_of e)

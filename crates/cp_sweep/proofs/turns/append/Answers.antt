@@ -2,7 +2,7 @@ use Rattle.std.proofs.Common.{length, sym, ◌∙◌}
 use Rattle.std.proofs.lemmas.Bool.{false≢true}
 use Rattle.cp_logic.specs.Views.{entry_of}
 use Rattle.cp_book.specs.Answers.{answer_to}
-use Rattle.cp_sweep.proofs.Posting.{posted-ok}
+use Rattle.cp_book.proofs.Choices.{posted-ok}
 use Rattle.cp_sweep.proofs.turns.append.Goals as goal
 
 pub unreachable-requires : goal.unreachable-requires

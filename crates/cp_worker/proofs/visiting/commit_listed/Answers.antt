@@ -1,14 +1,16 @@
 use Rattle.std.proofs.Common.{◌∙◌, ap, List, [], ◌∷◌, ◌++◌, ℕ}
 use Rattle.cp_logic.specs.Views.{entry_of}
 use Rattle.cp_hood.specs.Commits.{post_after}
-use Rattle.cp_worker.proofs.Centres.{HoldsJust-same, legal-same, after-prepared}
+use Rattle.cp_hood.proofs.Following.{legal-same}
+use Rattle.cp_hood.proofs.Turns.{HoldsJust-same}
+use Rattle.cp_worker.proofs.Centres.{after-prepared}
 use Rattle.cp_worker.proofs.visiting.commit_listed.Goals as goal
 
 pub returns-in_default-clause-holds : goal.returns-in_default-clause-holds
-returns-in_default-clause-holds c = HoldsJust-same c.args.seat.now.view c.args.hood.now c.prepare.new.self c.prepare.ensures.same c.requires.holds
+returns-in_default-clause-holds c = HoldsJust-same c.args.seat.now.view c.args.hood.now.cells c.prepare.new.self.cells c.prepare.ensures.same.variables c.prepare.ensures.same.lists c.requires.holds
 
 pub commit-requires-clause-holds : goal.commit-requires-clause-holds
-commit-requires-clause-holds c = HoldsJust-same c.args.seat.now.view c.args.hood.now c.prepare.new.self c.prepare.ensures.same c.requires.holds
+commit-requires-clause-holds c = HoldsJust-same c.args.seat.now.view c.args.hood.now.cells c.prepare.new.self.cells c.prepare.ensures.same.variables c.prepare.ensures.same.lists c.requires.holds
 
 pub commit-requires-clause-legal : goal.commit-requires-clause-legal
 commit-requires-clause-legal c = legal-same c.args.yard.now.base.rules c.args.hood.now c.prepare.new.self (entry_of c.args.entry) c.prepare.ensures.same c.requires.legal
