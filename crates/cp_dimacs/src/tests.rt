@@ -51,37 +51,34 @@ const FORMULAS: [Row; 14] = [
 ];
 
 const REFUSALS: [Row; 26] = [
-    ("", "bad input at byte 0: NoHeader"),
-    ("c x\n \n", "bad input at byte 6: NoHeader"),
-    ("1 0\np cnf 1 1\n", "bad input at byte 0: NoHeader"),
-    ("c\n %\np cnf 1 1\n", "bad input at byte 3: NoHeader"),
-    ("pcnf 1 1\n", "bad input at byte 0: NoHeader"),
-    ("p dnf 1 1\n", "bad input at byte 2: BadHeader"),
-    ("p\n", "bad input at byte 1: BadHeader"),
-    ("p cnf", "bad input at byte 5: BadHeader"),
-    ("p cnf 1 \n", "bad input at byte 8: BadHeader"),
-    ("p cnf 1 1 1\n", "bad input at byte 10: BadHeader"),
-    ("p cnf -1 1\n", "bad input at byte 6: BadHeader"),
-    ("p cnf 1 -1\n", "bad input at byte 8: BadHeader"),
-    ("p cnf 1 x\n", "bad input at byte 8: BadHeader"),
-    ("p cnf 2000001 x\n", "input too large at byte 6: Variables"),
-    ("p cnf 1 1\n1", "bad input at byte 11: OpenClause"),
-    ("p cnf 2 1\n1 2", "bad input at byte 13: OpenClause"),
-    ("p cnf 1 1\n1\n%\n", "bad input at byte 12: OpenClause"),
-    ("p cnf 1 1\n1 x 0\n", "bad input at byte 12: BadWord"),
-    ("p cnf 1 1\n-0\n", "bad input at byte 10: BadWord"),
-    ("p cnf 1 1\np 0\n", "bad input at byte 10: BadWord"),
-    ("p cnf 1 1\n+1 0\n", "bad input at byte 10: BadWord"),
-    ("p cnf 1 1\n1 % 0\n", "bad input at byte 12: BadWord"),
-    ("p cnf 2 1\n1 -2 0 -1", "bad input at byte 19: OpenClause"),
-    ("p cnf 2 1\n1 -2 0 2 0 %\n", "bad input at byte 21: BadWord"),
-    (
-        "p cnf 1 1\n2000001 0\n",
-        "input too large at byte 10: Variables",
-    ),
+    ("", "NoHeader at byte 0"),
+    ("c x\n \n", "NoHeader at byte 6"),
+    ("1 0\np cnf 1 1\n", "NoHeader at byte 0"),
+    ("c\n %\np cnf 1 1\n", "NoHeader at byte 3"),
+    ("pcnf 1 1\n", "NoHeader at byte 0"),
+    ("p dnf 1 1\n", "BadHeader at byte 2"),
+    ("p\n", "BadHeader at byte 1"),
+    ("p cnf", "BadHeader at byte 5"),
+    ("p cnf 1 \n", "BadHeader at byte 8"),
+    ("p cnf 1 1 1\n", "BadHeader at byte 10"),
+    ("p cnf -1 1\n", "BadHeader at byte 6"),
+    ("p cnf 1 -1\n", "BadHeader at byte 8"),
+    ("p cnf 1 x\n", "BadHeader at byte 8"),
+    ("p cnf 2000001 x\n", "too many Variables at byte 6"),
+    ("p cnf 1 1\n1", "OpenClause at byte 11"),
+    ("p cnf 2 1\n1 2", "OpenClause at byte 13"),
+    ("p cnf 1 1\n1\n%\n", "OpenClause at byte 12"),
+    ("p cnf 1 1\n1 x 0\n", "BadWord at byte 12"),
+    ("p cnf 1 1\n-0\n", "BadWord at byte 10"),
+    ("p cnf 1 1\np 0\n", "BadWord at byte 10"),
+    ("p cnf 1 1\n+1 0\n", "BadWord at byte 10"),
+    ("p cnf 1 1\n1 % 0\n", "BadWord at byte 12"),
+    ("p cnf 2 1\n1 -2 0 -1", "OpenClause at byte 19"),
+    ("p cnf 2 1\n1 -2 0 2 0 %\n", "BadWord at byte 21"),
+    ("p cnf 1 1\n2000001 0\n", "too many Variables at byte 10"),
     (
         "p cnf 1 1\n-99999999999999999999999 0\n",
-        "input too large at byte 10: Variables",
+        "too many Variables at byte 10",
     ),
 ];
 
@@ -99,6 +96,16 @@ fn print_of<D: Desk>(desk: &mut D, formula: &Formula) -> Result<(), Failed>
     print_cnf(desk, formula)
 }
 
+fn line_of(alloc: Global, refusal: CnfRefusal) -> Result<String, AllocError> {
+    match refusal {
+        CnfRefusal::BadInput { offset, kind } => { format!(in alloc; "{kind} at byte {offset}") }
+        CnfRefusal::TooLarge { limit, offset } => {
+            format!(in alloc; "too many {limit:?} at byte {offset}")
+        }
+        CnfRefusal::NoMemory => format!(in alloc; "out of memory"),
+    }
+}
+
 // The formula printed again, or the refusal.
 fn text_of(alloc: Global, found: Result<Formula, CnfRefusal>) -> Result<Vec<u8>, Fail> {
     let mut text = Vec::new(alloc);
@@ -109,8 +116,7 @@ fn text_of(alloc: Global, found: Result<Formula, CnfRefusal>) -> Result<Vec<u8>,
             text.extend_from_slice(desk.written(Role::Reduced))?;
         }
         Err(refusal) => {
-            let line = format!(in alloc; "{refusal}")?;
-            text.extend_from_slice(line.as_bytes())?;
+            text.extend_from_slice(line_of(alloc, refusal)?.as_bytes())?;
         }
     }
     Ok(text)
@@ -184,101 +190,62 @@ const LIMITED: [(u32, u64, u64, u64, Row); 14] = [
         1,
         3,
         18,
-        (
-            "p cnf 1 1\n1 1 2 0\n",
-            "input too large at byte 14: Variables",
-        ),
+        ("p cnf 1 1\n1 1 2 0\n", "too many Variables at byte 14"),
     ),
     (
         1,
         1,
         3,
         18,
-        (
-            "p cnf 2 1\n1 1 2 0\n",
-            "input too large at byte 6: Variables",
-        ),
+        ("p cnf 2 1\n1 1 2 0\n", "too many Variables at byte 6"),
     ),
     (
         2,
         0,
         3,
         18,
-        (
-            "p cnf 2 1\n1 1 2 0\n",
-            "input too large at byte 16: Clauses",
-        ),
+        ("p cnf 2 1\n1 1 2 0\n", "too many Clauses at byte 16"),
     ),
     (
         2,
         1,
         2,
         18,
-        (
-            "p cnf 2 1\n1 1 2 0\n",
-            "input too large at byte 14: Literals",
-        ),
+        ("p cnf 2 1\n1 1 2 0\n", "too many Literals at byte 14"),
     ),
     (
         2,
         1,
         3,
         17,
-        ("p cnf 2 1\n1 1 2 0\n", "input too large at byte 17: Bytes"),
+        ("p cnf 2 1\n1 1 2 0\n", "too many Bytes at byte 17"),
     ),
     (
         9,
         9,
         9,
         12,
-        ("p cnf 1 1\n1 0\n", "input too large at byte 12: Bytes"),
+        ("p cnf 1 1\n1 0\n", "too many Bytes at byte 12"),
     ),
-    (
-        9,
-        9,
-        9,
-        12,
-        ("p cnf 1 1\nx 1 0\n", "bad input at byte 10: BadWord"),
-    ),
+    (9, 9, 9, 12, ("p cnf 1 1\nx 1 0\n", "BadWord at byte 10")),
     (9, 9, 9, 12, ("p cnf 1 1\n%and more\n", "p cnf 1 0\n")),
     (
         9,
         9,
         9,
         10,
-        (
-            "p cnf 1 1\n%and more\n",
-            "input too large at byte 10: Bytes",
-        ),
+        ("p cnf 1 1\n%and more\n", "too many Bytes at byte 10"),
     ),
+    (9, 9, 9, 12, ("p cnf 1 1\n1x 0\n", "BadWord at byte 10")),
     (
         9,
         9,
         9,
         12,
-        ("p cnf 1 1\n1x 0\n", "bad input at byte 10: BadWord"),
+        ("p cnf 1 1\n1xy 0\n", "too many Bytes at byte 12"),
     ),
-    (
-        9,
-        9,
-        9,
-        12,
-        ("p cnf 1 1\n1xy 0\n", "input too large at byte 12: Bytes"),
-    ),
-    (
-        9,
-        9,
-        9,
-        4,
-        ("%%%%%%%%\n", "input too large at byte 4: Bytes"),
-    ),
-    (
-        9,
-        9,
-        9,
-        0,
-        ("p cnf 1 1\n", "input too large at byte 0: Bytes"),
-    ),
+    (9, 9, 9, 4, ("%%%%%%%%\n", "too many Bytes at byte 4")),
+    (9, 9, 9, 0, ("p cnf 1 1\n", "too many Bytes at byte 0")),
 ];
 
 #[test]

@@ -31,16 +31,13 @@ pub enum StackKind {
 }
 
 /// Why a text isn't read: its first fault, or want of memory. An offset is the number of bytes before the fault.
-#[derive(Clone, Copy, Debug, PartialEq, Eq, Error)]
+#[derive(Clone, Copy, Debug, PartialEq, Eq)]
 pub enum StackRefusal {
     /// The text isn't in the format.
-    #[error("bad stack at byte {offset}: {kind}")]
     BadStack { offset: u64, kind: StackKind },
     /// The text passes a limit.
-    #[error("stack too large at byte {offset}: {limit:?}")]
     TooLarge { limit: Limit, offset: u64 },
     /// There was no memory.
-    #[error("out of memory")]
     NoMemory,
 }
 

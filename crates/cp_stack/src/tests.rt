@@ -251,19 +251,18 @@ fn limits_are_kept(rt: HostRuntime) -> Result<(), Fail> {
 }
 
 #[test]
-fn refusals_are_printed(rt: HostRuntime) -> Result<(), Fail> {
+fn kinds_are_printed_by_name(rt: HostRuntime) -> Result<(), Fail> {
     let rows = [
-        (StackKind::BadHeader, "bad stack at byte 7: BadHeader"),
-        (StackKind::BadWord, "bad stack at byte 7: BadWord"),
-        (StackKind::TooGreat, "bad stack at byte 7: TooGreat"),
-        (StackKind::EmptyPair, "bad stack at byte 7: EmptyPair"),
-        (StackKind::OpenPair, "bad stack at byte 7: OpenPair"),
-        (StackKind::Count, "bad stack at byte 7: Count"),
+        (StackKind::BadHeader, "BadHeader"),
+        (StackKind::BadWord, "BadWord"),
+        (StackKind::TooGreat, "TooGreat"),
+        (StackKind::EmptyPair, "EmptyPair"),
+        (StackKind::OpenPair, "OpenPair"),
+        (StackKind::Count, "Count"),
     ];
-    for (kind, wanted) in rows {
-        let refusal = StackRefusal::BadStack { offset: 7, kind };
-        let text = format!(in rt.alloc(); "{refusal}")?;
-        assert_eq!(rt; text.as_str(), wanted);
+    for (kind, name) in rows {
+        let printed = format!(in rt.alloc(); "{kind}")?;
+        assert_eq!(rt; printed.as_str(), name);
     }
     Ok(())
 }
