@@ -4,14 +4,14 @@ use Rattle.std.specs.Option.{option_copied}
 use Rattle.cp_io.specs.declared.limits.Limits.{Limits}
 use Rattle.cp_logic.specs.Formulas.{Formula}
 use Rattle.cp_text.specs.Text.{Line}
-use Rattle.cp_dimacs.specs.declared.lines.Header.{Header}
+use Rattle.cp_dimacs.specs.declared.header_line.Header.{Header}
 use Rattle.cp_dimacs.specs.declared.parse.Found.{Found}
 use Rattle.cp_dimacs.specs.declared.refusal.CnfRefusal.{CnfRefusal}
 use Rattle.cp_dimacs.specs.declared.refusal.CnfRefusal.TheVariants.{NoMemory}
 use Rattle.cp_dimacs.specs.Written.{formula_of}
 use Rattle.cp_logic.specs.Slots.{Held}
 use Rattle.cp_dimacs.specs.Grammar.{◌>>=◌, clauses_in, document, judged}
-use Rattle.cp_dimacs.specs.Stops.{lines_behind, StopsWithin}
+use Rattle.cp_text.specs.Stops.{lines_behind, StopsWithin}
 
 -- the document of a header that names so many variables and of the lines behind it
 abbrev pub document_of : Limits → Bool → ℕ → ℕ → List Line → Result (Formula × Bool) CnfRefusal

@@ -3,14 +3,14 @@ use Rattle.std.specs.Prelude.{◌≡◌, ℕ, ◌+◌, ◌-◌, ◌^◌, min, Li
 use Rattle.std.specs.Option.{option_copied}
 use Rattle.cp_text.specs.Text.{Word as TextWord, Line, lines_from}
 use Rattle.cp_dimacs.specs.declared.header.WordAhead.{WordAhead}
-use Rattle.cp_dimacs.specs.declared.lines.Header.{Header}
+use Rattle.cp_dimacs.specs.declared.header_line.Header.{Header}
 use Rattle.cp_dimacs.specs.declared.refusal.InputKind.TheVariants.{BadHeader}
 use Rattle.cp_dimacs.specs.declared.refusal.CnfRefusal.{CnfRefusal}
 use Rattle.cp_dimacs.specs.declared.refusal.CnfRefusal.TheVariants.{BadInput}
 use Rattle.cp_text.specs.Cut.{whole_words}
 use Rattle.cp_dimacs.specs.Grammar.{count_in}
 use Rattle.cp_text.specs.Ahead.{IsWordAhead, IsLineAhead}
-use Rattle.cp_dimacs.specs.Stops.{lines_behind, StopsWithin}
+use Rattle.cp_text.specs.Stops.{lines_behind, StopsWithin}
 
 -- no word is left in the line in front
 pub record LacksWord (cut : Bool) (place : ℕ) (text : List ℕ) (refusal : CnfRefusal) : Type 0 where

@@ -3,14 +3,13 @@
 ghost use Rattle.std.specs.Prelude.{◌≡◌, ◌<◌, ◌+◌, ◌^◌, length, option_copied, IfOk};
 ghost use Rattle.cp_io.specs.Limits.{IsWithinStandard};
 ghost use Rattle.cp_text.specs.Text.{lines_from};
-ghost use Rattle.cp_dimacs.specs.Stops.{StopsWithin};
+ghost use Rattle.cp_text.specs.Stops.{StopsWithin};
 ghost use Rattle.cp_dimacs.specs.Lines.{TakesLine, TakesAnyLine, AnswersWithin, TakesBody};
 
 use crate::clauses::{Reading, close, take_word};
-use crate::lines::{LineStop, skip_line};
 use crate::refusal::CnfRefusal;
 use cp_io::Limits;
-use cp_text::{Item, next_item, next_whole};
+use cp_text::{Item, LineStop, next_item, next_seen, skip_line};
 use std::alloc::Global;
 
 /// Takes the words of a line.
@@ -30,7 +29,7 @@ pub(crate) fn take_line<'a>(
     let mut rest = text;
     let mut at = place;
     'words: loop {
-        match next_whole(rest, at, cut) {
+        match next_seen(rest, at, cut) {
             Item::Word {
                 at: begin,
                 word,

@@ -7,10 +7,10 @@ ghost use Rattle.cp_dimacs.specs.declared.refusal.InputKind.TheVariants.{BadHead
 ghost use Rattle.cp_dimacs.specs.declared.refusal.CnfRefusal.TheVariants.{BadInput};
 ghost use Rattle.cp_dimacs.specs.Headers.{word_of, IsHeaderWord, IsCount, AnswersHeader};
 
-use crate::lines::{Header, LineStop};
+use crate::header_line::Header;
 use crate::refusal::{CnfRefusal, InputKind};
 use cp_io::{Limit, Limits};
-use cp_text::{Item, next_whole, parse_number};
+use cp_text::{Item, LineStop, next_seen, parse_number};
 
 /// A word of a line, where it ends, and what follows it.
 #[derive(Drop)]
@@ -100,7 +100,7 @@ fn read_end(text: &[u8], place: u64, cut: bool, variables: u32) -> Result<Header
     requires place { place + length text.now < 2 ^ 64 }
     ensures { AnswersHeader (λ words end. no_more variables words) cut place text.now result }
 {
-    let stop = match next_whole(text, place, cut) {
+    let stop = match next_seen(text, place, cut) {
         Item::Word { at, .. } => return Err(bad_header(at)),
         Item::LineEnd { at, rest } => LineStop {
             at,
@@ -116,7 +116,7 @@ fn header_word(text: &[u8], place: u64, cut: bool) -> Result<WordAhead<'_>, CnfR
     requires { place + length text.now < 2 ^ 64 }
     ensures { IsHeaderWord cut place text.now result }
 {
-    match next_whole(text, place, cut) {
+    match next_seen(text, place, cut) {
         Item::Word { at, word, rest } => Ok(WordAhead {
             at,
             word,

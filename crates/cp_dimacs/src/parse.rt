@@ -14,11 +14,11 @@ ghost use Rattle.cp_dimacs.specs.Reads.{AnswersCnf, IsRead};
 use crate::body::take_body;
 use crate::clauses::Reading;
 use crate::header::read_header;
-use crate::lines::{Header, skip_line};
+use crate::header_line::Header;
 use crate::refusal::{CnfRefusal, InputKind};
 use cp_io::{Limit, Limits};
 use cp_logic::Formula;
-use cp_text::{Item, next_whole, within};
+use cp_text::{Item, next_seen, skip_line, within};
 use std::alloc::Global;
 
 /// A formula, and whether a line ended the input.
@@ -82,7 +82,7 @@ fn find_header<'a>(text: &'a [u8], cut: bool, limits: &Limits) -> Result<Header<
     let mut rest = text;
     let mut at = 0;
     'lines: loop {
-        match next_whole(rest, at, cut) {
+        match next_seen(rest, at, cut) {
             Item::Word { word, .. } => {
                 if word[0] != b'c' {
                     return read_header(rest, at, cut, limits);

@@ -1,16 +1,16 @@
 -- The steps of reading a model, each as a law over what is left of the text.
-use Rattle.std.specs.Prelude.{◌≡◌, ◌≢◌, ℕ, ◌+◌, ◌≤◌, List, [], ◌∷◌, length, codes, Bool, true, false, Option, Some, None, Result, Ok, Err, if◌then◌else◌}
+use Rattle.std.specs.Prelude.{◌≡◌, ◌≢◌, ℕ, List, [], ◌∷◌, codes, Bool, true, false, Option, Some, None, Result, Ok, Err, if◌then◌else◌}
 use Rattle.std.specs.Option.{option_copied}
 use Rattle.std.specs.Str.{bytes_eq}
 use Rattle.cp_io.specs.declared.limits.Limits.{Limits}
 use Rattle.cp_text.specs.Numbers.{NumberWord}
-use Rattle.cp_text.specs.Cut.{lines_seen}
+use Rattle.cp_text.specs.declared.lines.LineStop.{LineStop}
 use Rattle.cp_text.specs.Items.{with_word}
+use Rattle.cp_text.specs.Stops.{StopsWithin, seen_behind}
 use Rattle.cp_text.specs.Text.{Word, Line}
 use Rattle.cp_extend.specs.declared.refusal.ModelKind.TheVariants.{BadStatus, NoEnd}
 use Rattle.cp_extend.specs.declared.refusal.ModelRefusal.TheVariants.{NoMemory}
 use Rattle.cp_extend.specs.declared.refusal.Stop.{Stop}
-use Rattle.cp_extend.specs.declared.parsing.LineStop.{LineStop}
 use Rattle.std.specs.declared.alloc.AllocError.{AllocError}
 use Rattle.cp_extend.specs.Grammar.{Given, Reading, ◌>>=◌, bad, fault, with_given, contradicts, value_words, status_words, names_no_model, document}
 
@@ -41,25 +41,15 @@ abbrev pub in_status : Limits → Reading → List Line → Result Given Stop
 in_status limits r [] = bad 0 NoEnd
 in_status limits r (line ∷ lines) = status_words r line.words line.end >>= λ read. document limits read line.end lines
 
--- the lines behind a line that ends at a place
-abbrev pub lines_behind : Bool → ℕ → Option (List ℕ) → List Line
-lines_behind cut at None = []
-lines_behind cut at (Some rest) = lines_seen cut (at + 1) rest
-
 -- reading goes on behind a line
 abbrev pub behind_stop : Limits → Bool → Reading → LineStop → Result Given Stop
-behind_stop limits cut r stop = document limits r stop.at (lines_behind cut stop.at (option_copied stop.rest))
+behind_stop limits cut r stop = document limits r stop.at (seen_behind cut stop.at (option_copied stop.rest))
 
 -- Reading goes on behind the line, or the 0 was met, or it stops.
 abbrev pub GoesOn : Limits → Bool → Result Given Stop → Result (Option LineStop) Stop → Reading → Type 0
 GoesOn limits cut expected (Ok (Some stop)) new = expected ≡ behind_stop limits cut new stop
 GoesOn limits cut expected (Ok None) new = expected ≡ Ok new.given
 GoesOn limits cut expected (Err stop) new = stop.refusal ≢ NoMemory → expected ≡ Err stop
-
--- Where a line stops, what follows its line feed is the rest of the text.
-abbrev pub StopsWithin : ℕ → List ℕ → ℕ → Option (List ℕ) → Type 0
-StopsWithin place text at None = Unit {0}
-StopsWithin place text at (Some rest) = (place ≤ at) × (at + 1 + length rest ≡ place + length text)
 
 abbrev pub AnswersWithin : ℕ → List ℕ → Option LineStop → Type 0
 AnswersWithin place text None = Unit {0}
@@ -70,10 +60,6 @@ abbrev pub ReadsLines : Result Given Stop → Result (Unit {0}) Stop → Reading
 ReadsLines expected (Ok done) new = expected ≡ Ok new.given
 ReadsLines expected (Err stop) new = stop.refusal ≢ NoMemory → expected ≡ Err stop
 
--- The first line is passed over.
-abbrev pub SkipsLine : Bool → List Line → LineStop → Type 0
-SkipsLine cut lines stop = (words : List Word) × (lines ≡ record { words = words; end = stop.at } ∷ lines_behind cut stop.at (option_copied stop.rest))
-
 -- The word of a status line: whether it says that there is a model.
 abbrev pub SaysModel : Word → Result Bool Stop → Type 0
 SaysModel w (Ok true) = bytes_eq w.bytes (codes "SATISFIABLE") ≡ true
@@ -82,5 +68,5 @@ SaysModel w (Err stop) = (bytes_eq w.bytes (codes "SATISFIABLE") ≡ false) × (
 
 -- No word of the first line is left, or a word is one too many.
 abbrev pub EndsStatus : Bool → List Line → Result LineStop Stop → Type 0
-EndsStatus cut lines (Ok stop) = lines ≡ record { words = []; end = stop.at } ∷ lines_behind cut stop.at (option_copied stop.rest)
+EndsStatus cut lines (Ok stop) = lines ≡ record { words = []; end = stop.at } ∷ seen_behind cut stop.at (option_copied stop.rest)
 EndsStatus cut lines (Err stop) = (w : Word) × (after : List Line) × (lines ≡ with_word w after) × (stop ≡ fault w.at BadStatus)

@@ -6,19 +6,13 @@ ghost use Rattle.cp_io.specs.declared.limits.Limits.{Limits};
 ghost use Rattle.cp_text.specs.Cut.{lines_seen};
 ghost use Rattle.cp_extend.specs.Grammar.{document};
 ghost use Rattle.cp_extend.specs.Held.{reading_of};
-ghost use Rattle.cp_extend.specs.Steps.{TakesWord, GoesOn, AnswersWithin, StopsWithin, ReadsLines, SkipsLine, SaysModel, EndsStatus, in_values, in_status};
+ghost use Rattle.cp_text.specs.Stops.{StopsWithin};
+ghost use Rattle.cp_extend.specs.Steps.{TakesWord, GoesOn, AnswersWithin, ReadsLines, SaysModel, EndsStatus, in_values, in_status};
 
 use crate::progress::Progress;
 use crate::refusal::{ModelKind, ModelRefusal, Stop};
 use cp_io::{Limit, Limits};
-use cp_text::{Item, next_seen, parse_number};
-
-// Where a line ends, and what follows its line feed.
-#[derive(Drop)]
-pub(crate) struct LineStop<'a> {
-    at: u64,
-    rest: Option<&'a [u8]>,
-}
+use cp_text::{Item, LineStop, next_seen, parse_number, skip_line};
 
 // Takes a word of a value line. True where it is the 0.
 fn take_word(progress: &mut Progress, at: u64, word: &[u8], limits: &Limits) -> Result<bool, Stop>
@@ -92,37 +86,6 @@ fn take_values<'a>(
             }
             Item::End { at } => {
                 return Ok(Some(LineStop { at, rest: None }));
-            }
-        }
-    }
-}
-
-// Passes over the words of a line.
-fn skip_line(text: &[u8], place: u64, cut: bool) -> LineStop<'_>
-    requires { place + length text.now < 2 ^ 64 }
-    ensures skips { SkipsLine cut (lines_seen cut place text.now) result }
-    ensures within { StopsWithin place text.now result.at (option_copied result.rest) }
-{
-    let mut rest = text;
-    let mut from = place;
-    'words: loop {
-        match next_seen(rest, from, cut) {
-            Item::Word {
-                at,
-                word,
-                rest: after,
-            } => {
-                from = at + word.len() as u64;
-                rest = after;
-            }
-            Item::LineEnd { at, rest: after } => {
-                return LineStop {
-                    at,
-                    rest: Some(after),
-                };
-            }
-            Item::End { at } => {
-                return LineStop { at, rest: None };
             }
         }
     }
@@ -209,7 +172,7 @@ fn take_line<'a>(
     };
     let behind = at + word.len() as u64;
     if word[0] == b'c' {
-        return Ok(Some(skip_line(rest, behind, cut)));
+        return Ok(Some(skip_line(rest, behind)));
     }
     if word == b"v".as_slice() {
         return take_values(progress, rest, behind, cut, limits);

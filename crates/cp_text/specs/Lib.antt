@@ -3,4 +3,5 @@ pub mod Collected
 pub mod Cut
 pub mod Items
 pub mod Numbers
+pub mod Stops
 pub mod Text

@@ -46,27 +46,17 @@ fn begins_in_word(bytes: &[u8]) -> bool
     }
 }
 
-/// The next item of a text that begins at a place, where a last word that is cut isn't looked at. Its contract tells the lines of
-/// the whole text.
-pub fn next_whole(text: &[u8], place: u64, cut: bool) -> Item<'_>
-    requires { place + length text.now < 2 ^ 64 }
-    ensures { IsNextWhole cut place text.now result }
-{
-    let item = next_item(text, place);
-    if let Item::Word { rest, .. } = &item {
-        if cut && rest.is_empty() {
-            return Item::End {
-                at: place + text.len() as u64,
-            };
-        }
-    }
-    item
-}
-
-/// The same, whose contract tells the lines that are seen.
+/// The next item of a text that begins at a place, where a last word that is cut isn't looked at. Its contract tells both the lines of
+/// the whole text and the lines that are seen.
 pub fn next_seen(text: &[u8], place: u64, cut: bool) -> Item<'_>
     requires { place + length text.now < 2 ^ 64 }
-    ensures { IsNextSeen cut place text.now result }
+    ensures whole { IsNextWhole cut place text.now result }
+    ensures seen { IsNextSeen cut place text.now result }
 {
-    next_whole(text, place, cut)
+    match next_item(text, place) {
+        Item::Word { rest, .. } if cut && rest.is_empty() => Item::End {
+            at: place + text.len() as u64,
+        },
+        item => item,
+    }
 }

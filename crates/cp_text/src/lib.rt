@@ -1,19 +1,21 @@
 //! Lines, words and number words of a text, which every reader of a text format stands on.
 //!
-//! A layer above may rely on this: `next_item` goes through the lines that `specs/Text` defines, `next_seen` and `next_whole`
-//! through those that are seen of an input that may be longer than its limit, `parse_number` gives what `specs/Numbers` says of
-//! a word, and a `Collected` keeps of the bytes that it is fed as many as can matter.
+//! A layer above may rely on this: `next_item` goes through the lines that `specs/Text` defines, `next_seen` through those that are
+//! seen of an input that may be longer than its limit, `skip_line` tells where one stops, `parse_number` gives what `specs/Numbers`
+//! says of a word, and a `Collected` keeps of the bytes that it is fed as many as can matter.
 #![tactic(auto)]
 
 mod collected;
 mod cut;
 pub mod laws;
+mod lines;
 mod numbers;
 #[cfg(test)]
 mod tests;
 mod text;
 
 pub use collected::Collected;
-pub use cut::{Seen, next_seen, next_whole, within};
+pub use cut::{Seen, next_seen, within};
+pub use lines::{LineStop, skip_line};
 pub use numbers::{Number, parse_number};
 pub use text::{Item, next_item};

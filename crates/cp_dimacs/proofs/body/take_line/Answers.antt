@@ -10,12 +10,12 @@ returns-in_err-take_word-in-Word-clause-takes c =
     let w : Word = record { at = c.in-Word.begin; bytes = c.in-Word.word.now } in
     rw (p.1, p.2)
     (line_refused c.args.limits.now c.args.cut (c.args.place + length c.args.text.now) c.args.reading.now c.words.reading c.take_word.new.reading (lines_from c.args.place c.args.text.now) c.words.at c.words.rest.now c.in-Word.after.now w
-    c.in_err-take_word-in-Word.field-0.0 c.words.invariant.taken c.in-Word.ensures c.words.invariant.length c.in_err-take_word-in-Word.ensures)
+    c.in_err-take_word-in-Word.field-0.0 c.words.invariant.taken c.in-Word.ensures.whole c.words.invariant.length c.in_err-take_word-in-Word.ensures)
 
 pub words-preserved : goal.words-preserved
 words-preserved c =
     let w : Word = record { at = c.in-Word.begin; bytes = c.in-Word.word.now } in
-    let ahead = c.in-Word.ensures in
+    let ahead = c.in-Word.ensures.whole in
     record {
       taken = word_taken c.args.limits.now c.args.cut (c.args.place + length c.args.text.now) c.args.reading.now c.words.reading c.take_word.new.reading (lines_from c.args.place c.args.text.now) c.words.at c.words.rest.now c.in-Word.after.now w
           c.words.invariant.taken ahead c.words.invariant.length c.in_ok-take_word-in-Word.ensures;

@@ -15,7 +15,7 @@ returns-then-eq-clause-takes c = λ end.
     let w : Word = record { at = c.in-Word.at; bytes = c.in-Word.word.now } in
     let lines = lines_seen c.args.cut c.args.place c.args.text.now in
     let after = lines_seen c.args.cut (c.in-Word.at + length c.in-Word.word.now) c.in-Word.rest.now in
-    let h : BeginsLine lines w after = record { is = c.in-Word.ensures.0; some = some_line_seen c.args.cut (c.in-Word.at + length c.in-Word.word.now) c.in-Word.rest.now } in
+    let h : BeginsLine lines w after = record { is = c.in-Word.ensures.seen.0; some = some_line_seen c.args.cut (c.in-Word.at + length c.in-Word.word.now) c.in-Word.rest.now } in
     let read = reading_of c.args.progress.now in
     let values : bytes_eq c.in-Word.word.now (codes "v") ≡ true = cc (c.if-eq.ensures, c.as_slice.ensures) in
     goes-on c.args.limits.now c.args.cut (document c.args.limits.now read end lines) (in_values c.args.limits.now read after) c.take_values.result (reading_of c.take_values.new.progress)
@@ -26,7 +26,7 @@ returns-clause-takes c = λ end not.
     let w : Word = record { at = c.in-Word.at; bytes = c.in-Word.word.now } in
     let lines = lines_seen c.args.cut c.args.place c.args.text.now in
     let after = lines_seen c.args.cut (c.in-Word.at + length c.in-Word.word.now) c.in-Word.rest.now in
-    let h : BeginsLine lines w after = record { is = c.in-Word.ensures.0; some = some_line_seen c.args.cut (c.in-Word.at + length c.in-Word.word.now) c.in-Word.rest.now } in
+    let h : BeginsLine lines w after = record { is = c.in-Word.ensures.seen.0; some = some_line_seen c.args.cut (c.in-Word.at + length c.in-Word.word.now) c.in-Word.rest.now } in
     let read = reading_of c.args.progress.now in
     let values : bytes_eq c.in-Word.word.now (codes "v") ≡ false = cc (c.if-eq.ensures, c.as_slice.ensures) in
     let status : bytes_eq c.in-Word.word.now (codes "s") ≡ false = cc (c.if-eq-2.ensures, c.as_slice-2.ensures) in
@@ -37,7 +37,7 @@ returns-then-has_status-clause-takes c = λ end not.
     let w : Word = record { at = c.in-Word.at; bytes = c.in-Word.word.now } in
     let lines = lines_seen c.args.cut c.args.place c.args.text.now in
     let after = lines_seen c.args.cut (c.in-Word.at + length c.in-Word.word.now) c.in-Word.rest.now in
-    let h : BeginsLine lines w after = record { is = c.in-Word.ensures.0; some = some_line_seen c.args.cut (c.in-Word.at + length c.in-Word.word.now) c.in-Word.rest.now } in
+    let h : BeginsLine lines w after = record { is = c.in-Word.ensures.seen.0; some = some_line_seen c.args.cut (c.in-Word.at + length c.in-Word.word.now) c.in-Word.rest.now } in
     let read = reading_of c.args.progress.now in
     let values : bytes_eq c.in-Word.word.now (codes "v") ≡ false = cc (c.if-eq.ensures, c.as_slice.ensures) in
     let status : bytes_eq c.in-Word.word.now (codes "s") ≡ true = cc (c.if-eq-2.ensures, c.as_slice-2.ensures) in
@@ -48,7 +48,7 @@ returns-then-eq-2-clause-takes c = λ end.
     let w : Word = record { at = c.in-Word.at; bytes = c.in-Word.word.now } in
     let lines = lines_seen c.args.cut c.args.place c.args.text.now in
     let after = lines_seen c.args.cut (c.in-Word.at + length c.in-Word.word.now) c.in-Word.rest.now in
-    let h : BeginsLine lines w after = record { is = c.in-Word.ensures.0; some = some_line_seen c.args.cut (c.in-Word.at + length c.in-Word.word.now) c.in-Word.rest.now } in
+    let h : BeginsLine lines w after = record { is = c.in-Word.ensures.seen.0; some = some_line_seen c.args.cut (c.in-Word.at + length c.in-Word.word.now) c.in-Word.rest.now } in
     let read = reading_of c.args.progress.now in
     let values : bytes_eq c.in-Word.word.now (codes "v") ≡ false = cc (c.if-eq.ensures, c.as_slice.ensures) in
     let status : bytes_eq c.in-Word.word.now (codes "s") ≡ true = cc (c.if-eq-2.ensures, c.as_slice-2.ensures) in

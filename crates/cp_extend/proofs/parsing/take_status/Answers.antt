@@ -13,7 +13,7 @@ returns-in_err-has_model-clause-takes c = λ limits.
     let w : Word = record { at = c.in-Word.at; bytes = c.in-Word.word.now } in
     let after = c.in-Word.at + length c.in-Word.word.now in
     rw (p.1, p.2) (status-wrong limits c.args.cut (reading_of c.args.progress.now) (reading_of c.args.progress.now) w (lines_seen c.args.cut c.args.place c.args.text.now)
-    (lines_seen c.args.cut after c.in-Word.rest.now) c.in_err-has_model.field-0.0 c.in-Word.ensures.0 (some_line_seen c.args.cut after c.in-Word.rest.now) c.in_err-has_model.ensures)
+    (lines_seen c.args.cut after c.in-Word.rest.now) c.in_err-has_model.field-0.0 c.in-Word.ensures.seen.0 (some_line_seen c.args.cut after c.in-Word.rest.now) c.in_err-has_model.ensures)
 
 pub returns-in_err-stop-clause-takes : goal.returns-in_err-stop-clause-takes
 returns-in_err-stop-clause-takes c = λ limits.
@@ -21,4 +21,4 @@ returns-in_err-stop-clause-takes c = λ limits.
     let w : Word = record { at = c.in-Word.at; bytes = c.in-Word.word.now } in
     let after = c.in-Word.at + length c.in-Word.word.now in
     rw (p.1, p.2) (status-longer limits c.args.cut (reading_of c.args.progress.now) (reading_of c.args.progress.now) w (lines_seen c.args.cut c.args.place c.args.text.now)
-    (lines_seen c.args.cut after c.in-Word.rest.now) c.in_ok-has_model.has_model c.in_err-stop.field-0.0 c.in-Word.ensures.0 (some_line_seen c.args.cut after c.in-Word.rest.now) c.in_ok-has_model.ensures c.in_err-stop.ensures.ends)
+    (lines_seen c.args.cut after c.in-Word.rest.now) c.in_ok-has_model.has_model c.in_err-stop.field-0.0 c.in-Word.ensures.seen.0 (some_line_seen c.args.cut after c.in-Word.rest.now) c.in_ok-has_model.ensures c.in_err-stop.ensures.ends)

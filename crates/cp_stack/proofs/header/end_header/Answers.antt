@@ -9,4 +9,4 @@ pub returns-in-Word : goal.returns-in-Word
 returns-in-Word c =
     let after = c.in-Word.at + length c.in-Word.word.now in
     ap Err c.bad.ensures
-    ∙ no_word-word (record { at = c.in-Word.at; bytes = c.in-Word.word.now }) (lines_of c.args.text) (lines_seen c.args.text.cut after c.in-Word.rest.now) c.in-Word.ensures.0 (some_line_seen c.args.text.cut after c.in-Word.rest.now)
+    ∙ no_word-word (record { at = c.in-Word.at; bytes = c.in-Word.word.now }) (lines_of c.args.text) (lines_seen c.args.text.cut after c.in-Word.rest.now) c.in-Word.ensures.seen.0 (some_line_seen c.args.text.cut after c.in-Word.rest.now)

@@ -15,7 +15,7 @@ returns-in_err-take_word-in-Word c =
     let rest = lines_seen c.args.text.cut after c.in-Word.rest.now in
     let e = c.in_err-take_word-in-Word.field-0.0 in
     rw (p.1, p.2) (subst (λ (w : Result Stack StackRefusal). Refuses w e)
-    (sym (c.words.invariant.goes_on ∙ resume-word c.words.reading (record { at = c.in-Word.at; bytes = c.in-Word.word.now }) (lines_seen c.args.text.cut c.words.place c.words.left.now) rest c.in-Word.ensures.0 (some_line_seen c.args.text.cut after c.in-Word.rest.now)))
+    (sym (c.words.invariant.goes_on ∙ resume-word c.words.reading (record { at = c.in-Word.at; bytes = c.in-Word.word.now }) (lines_seen c.args.text.cut c.words.place c.words.left.now) rest c.in-Word.ensures.seen.0 (some_line_seen c.args.text.cut after c.in-Word.rest.now)))
     (c.in_err-take_word-in-Word.ensures.step (words_of rest) (end_of rest)))
 
 pub words-preserved-in-Word : goal.words-preserved-in-Word
@@ -24,10 +24,10 @@ words-preserved-in-Word c =
     let rest = lines_seen c.args.text.cut after c.in-Word.rest.now in
     record {
       goes_on = c.words.invariant.goes_on
-          ∙ resume-word c.words.reading (record { at = c.in-Word.at; bytes = c.in-Word.word.now }) (lines_seen c.args.text.cut c.words.place c.words.left.now) rest c.in-Word.ensures.0 (some_line_seen c.args.text.cut after c.in-Word.rest.now)
+          ∙ resume-word c.words.reading (record { at = c.in-Word.at; bytes = c.in-Word.word.now }) (lines_seen c.args.text.cut c.words.place c.words.left.now) rest c.in-Word.ensures.seen.0 (some_line_seen c.args.text.cut after c.in-Word.rest.now)
           ∙ c.in_ok-take_word-in-Word.ensures.step (words_of rest) (end_of rest);
       reading = c.in_ok-take_word-in-Word.ensures.reading;
-      within = omega (arith, c.in-Word.ensures.3, c.words.invariant.within);
+      within = omega (arith, c.in-Word.ensures.seen.3, c.words.invariant.within);
     }
 
 pub words-preserved : goal.words-preserved
@@ -35,7 +35,7 @@ words-preserved c =
     let rest = lines_seen c.args.text.cut (c.in-LineEnd.at + 1) c.in-LineEnd.rest.now in
     record {
       goes_on = c.words.invariant.goes_on
-          ∙ resume-empty c.words.reading c.in-LineEnd.at (lines_seen c.args.text.cut c.words.place c.words.left.now) rest c.in-LineEnd.ensures.0 (some_line_seen c.args.text.cut (c.in-LineEnd.at + 1) c.in-LineEnd.rest.now);
+          ∙ resume-empty c.words.reading c.in-LineEnd.at (lines_seen c.args.text.cut c.words.place c.words.left.now) rest c.in-LineEnd.ensures.seen.0 (some_line_seen c.args.text.cut (c.in-LineEnd.at + 1) c.in-LineEnd.rest.now);
       reading = c.words.invariant.reading;
-      within = omega (arith, c.in-LineEnd.ensures.2, c.words.invariant.within);
+      within = omega (arith, c.in-LineEnd.ensures.seen.2, c.words.invariant.within);
     }

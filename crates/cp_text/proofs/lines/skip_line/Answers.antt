@@ -1,7 +1,7 @@
 use Rattle.std.proofs.Common.{◌+◌, [], ◌∷◌, ◌++◌, length, ◌∙◌, ap, arith}
 use Rattle.cp_text.specs.Text.{Word, lines_from}
 use Rattle.cp_text.proofs.LinesAhead.{with_words, with_words-none, with_words-word}
-use Rattle.cp_dimacs.proofs.lines.skip_line.Goals as goal
+use Rattle.cp_text.proofs.lines.skip_line.Goals as goal
 
 pub words-init : goal.words-init
 words-init c = (([], with_words-none (lines_from c.args.place c.args.text.now)), omega arith, omega arith)
