@@ -3,10 +3,7 @@ use Rattle.std.proofs.Common.{◌≡◌, ℕ, ◌+◌, ◌≤◌, true, ltb, Lis
 use Rattle.std.specs.List.{list_all}
 use Rattle.std.proofs.lemmas.Bool.{lt-ltb, and_from}
 use Rattle.cp_logic.specs.Literals.{variable_of}
-use Rattle.cp_logic.specs.Clauses.{clause_of}
 use Rattle.cp_logic.specs.Formulas.{IsWithin}
-use Rattle.cp_logic.proofs.Members.{all_at, all_from}
-use Rattle.cp_logic.proofs.SetFacts.{of_clause_of}
 use Rattle.cp_dimacs.specs.Written.{greatest_of}
 
 below_greatest : (most : ℕ) (literals : List ℕ) → greatest_of literals ≤ most → list_all (λ l. ltb (variable_of l) (most + 1)) literals ≡ true
@@ -16,10 +13,3 @@ below_greatest most (l ∷ literals) h =
 
 pub within-greatest : (most : ℕ) (literals : List ℕ) → list_all (λ l. ltb 0 (variable_of l)) literals ≡ true → greatest_of literals ≤ most → IsWithin most literals
 within-greatest most literals low h = (low, below_greatest most literals h)
-
--- a clause has the variables of its literals
-pub within-clause_of : (variables : ℕ) (literals : List ℕ) → IsWithin variables literals → IsWithin variables (clause_of literals)
-within-clause_of variables literals h = (
-  all_from (λ l. ltb 0 (variable_of l)) (clause_of literals) (λ l m. all_at (λ l. ltb 0 (variable_of l)) literals l h.0 (of_clause_of literals l m)),
-  all_from (λ l. ltb (variable_of l) (variables + 1)) (clause_of literals) (λ l m. all_at (λ l. ltb (variable_of l) (variables + 1)) literals l h.1 (of_clause_of literals l m)),
-)

@@ -15,7 +15,8 @@ use Rattle.cp_dimacs.specs.declared.refusal.CnfRefusal.TheVariants.{BadInput, To
 use Rattle.cp_dimacs.specs.declared.refusal.InputKind.TheVariants.{OpenClause}
 use Rattle.cp_dimacs.specs.Written.{formula_of}
 use Rattle.cp_text.specs.Cut.{whole_words}
-use Rattle.cp_dimacs.specs.Grammar.{◌>>=◌, number_at, code_of, is_comment, header, body, clauses_from, clauses_in, document, stands_before, judged, reads}
+use Rattle.cp_logic.specs.Signs.{signed}
+use Rattle.cp_dimacs.specs.Grammar.{◌>>=◌, number_at, is_comment, header, body, clauses_from, clauses_in, document, stands_before, judged, reads}
 
 -- ---- the bytes
 
@@ -51,15 +52,15 @@ few limits number n open_clause [] end low = at_end limits number end (eqb (leng
 few limits number n open_clause (w ∷ words) end low =
     found (number_at w)
     (λ room. let most : number ≤ limits.clauses = ltb-false limits.clauses number room in few limits (number + 1) n [] words end (omega arith))
-    (λ k. few limits number (n + 1) (open_clause ++ code_of k ∷ []) words end low)
+    (λ k. few limits number (n + 1) (open_clause ++ signed k.positive k.size ∷ []) words end low)
   where
-    found : (r : Result NumberWord CnfRefusal) → (ltb limits.clauses number ≡ false → AreFew limits (number + 1) (clauses_from limits (number + 1) n [] words end)) → ((k : NumberWord) → AreFew limits number (clauses_from limits number (n + 1) (open_clause ++ code_of k ∷ []) words end))
+    found : (r : Result NumberWord CnfRefusal) → (ltb limits.clauses number ≡ false → AreFew limits (number + 1) (clauses_from limits (number + 1) n [] words end)) → ((k : NumberWord) → AreFew limits number (clauses_from limits number (n + 1) (open_clause ++ signed k.positive k.size ∷ []) words end))
         → AreFew limits number
         (r >>= λ k. cond (eqb k.size 0) (cond (ltb limits.clauses number) (Err (TooLarge Clauses w.at)) (clauses_from limits (number + 1) n [] words end >>= λ clauses. Ok (open_clause ∷ clauses)))
-        (cond (ltb limits.variables k.size) (Err (TooLarge Variables w.at)) (cond (leb limits.literals n) (Err (TooLarge Literals w.at)) (clauses_from limits number (n + 1) (open_clause ++ code_of k ∷ []) words end))))
+        (cond (ltb limits.variables k.size) (Err (TooLarge Variables w.at)) (cond (leb limits.literals n) (Err (TooLarge Literals w.at)) (clauses_from limits number (n + 1) (open_clause ++ signed k.positive k.size ∷ []) words end))))
     found (Err refusal) ended next = tt
     found (Ok k) ended next = at_number limits number open_clause (eqb k.size 0) (ltb limits.clauses number) (ltb limits.variables k.size) (leb limits.literals n) (TooLarge Clauses w.at) (TooLarge Variables w.at) (TooLarge Literals w.at)
-        (clauses_from limits (number + 1) n [] words end) (clauses_from limits number (n + 1) (open_clause ++ code_of k ∷ []) words end) ended (next k)
+        (clauses_from limits (number + 1) n [] words end) (clauses_from limits number (n + 1) (open_clause ++ signed k.positive k.size ∷ []) words end) ended (next k)
 
 -- ---- the document
 

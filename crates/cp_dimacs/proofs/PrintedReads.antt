@@ -1,22 +1,22 @@
 -- A printed formula is read as its clauses.
-use Rattle.std.proofs.Common.{◌≡◌, ℕ, zero, suc, ◌+◌, ◌%◌, ◌^◌, ◌<◌, ◌≤◌, max, Bool, true, false, eqb, leb, ltb, cond, List, [], ◌∷◌, ◌++◌, length, get_or, map, sum_by, Result, Ok, refl, sym, ◌∙◌, ap, arith, append_assoc}
+use Rattle.std.proofs.Common.{◌≡◌, ℕ, zero, suc, ◌+◌, ◌^◌, ◌<◌, ◌≤◌, max, Bool, true, false, eqb, leb, ltb, cond, List, [], ◌∷◌, ◌++◌, length, get_or, map, sum_by, Result, Ok, refl, sym, ◌∙◌, ap, arith, append_assoc}
 use Rattle.std.specs.Prelude.{codes, decimal}
 use Rattle.std.specs.List.{All}
 use Rattle.std.specs.Char.{is_ascii_digit}
 use Rattle.std.specs.Str.{all_ascii_digits}
 use Rattle.std.proofs.lemmas.Bool.Decides.{nat_tests}
-use Rattle.std.proofs.lemmas.Bool.{and_parts, eqb-true, eqb-false}
+use Rattle.std.proofs.lemmas.Bool.{and_parts, eqb-true}
 use Rattle.std.proofs.lemmas.List.{append-nil, take_all, drop_all, length-map}
 use Rattle.std.proofs.lemmas.List.Elements.{All-map}
 use Rattle.std.proofs.lemmas.List.Sums.{sum_by-cons}
 use Rattle.cp_io.specs.declared.limits.Limits.{Limits}
 use Rattle.cp_logic.specs.declared.named.Named.{Named}
-use Rattle.cp_logic.specs.Literals.{positive, negative, variable_of, is_positive}
+use Rattle.cp_logic.specs.Literals.{variable_of, is_positive}
 use Rattle.cp_logic.specs.Clauses.{clause_of, IsAscending}
 use Rattle.cp_logic.specs.Entries.{numbered_from, renumbered}
 use Rattle.cp_logic.specs.Formulas.{Formula, IsFormula, IsWithin, clauses_of, has_empty}
-use Rattle.cp_logic.proofs.Expansions.{within_smaller, variable_within}
-use Rattle.cp_logic.proofs.Members.{in_here, in_later}
+use Rattle.cp_logic.proofs.Filling.{within-more}
+use Rattle.cp_logic.proofs.SignedLiterals.{signed-parts, first-within, rest-within}
 use Rattle.cp_logic.proofs.SortedClauses.{ascending-clause_of}
 use Rattle.cp_dimacs.specs.Cnf.{cnf_text}
 use Rattle.cp_dimacs.specs.Written.{formula_of, greatest_of, greatest_in}
@@ -27,23 +27,7 @@ use Rattle.cp_dimacs.specs.Laws.{as_printed, ReadsPrinted}
 use Rattle.cp_text.proofs.Printed.{AreWords, AreLines, literal_word, literal-is_word, decimal-is_word, decimal-all_digits, number_of-literal_word, number_of-decimal, lines_text, laid, placed, placed_after, line_end, lines_from-printed}
 use Rattle.cp_dimacs.proofs.PrintedLines.{word_of, clause_line, clause_lines, header_line, cnf-lines, empty-lines}
 
--- ---- the code of a literal
-
-code_from_parts : (l : ℕ) → cond (is_positive l) (positive (variable_of l)) (negative (variable_of l)) ≡ l
-code_from_parts l = go (is_positive l) refl
-  where
-    go : (s : Bool) → is_positive l ≡ s → cond s (positive (variable_of l)) (negative (variable_of l)) ≡ l
-    go true e = let even : l % 2 ≡ 0 = eqb-true (l % 2) 0 e in omega arith
-    go false e = let odd : l % 2 ≡ 0 → ⊥ = eqb-false (l % 2) 0 e in omega arith
-
 -- ---- the literals of a clause
-
--- the first literal, and those behind it
-first-within : (variables l : ℕ) (ls : List ℕ) → IsWithin variables (l ∷ ls) → (0 < variable_of l) × (variable_of l ≤ variables)
-first-within variables l ls h = variable_within variables (l ∷ ls) l h (in_here l l ls refl)
-
-rest-within : (variables l : ℕ) (ls : List ℕ) → IsWithin variables (l ∷ ls) → IsWithin variables ls
-rest-within variables l ls h = within_smaller variables ls (λ x i. variable_within variables (l ∷ ls) x h (in_later x l ls i))
 
 literal-taken : (limits : Limits) (m n l : ℕ) (literals : List ℕ) (at : ℕ) (more : List Word) (end : ℕ) → limits.variables < 2 ^ 32 → n < limits.literals → 0 < variable_of l → variable_of l ≤ limits.variables
     → clauses_from limits m n literals (record { at = at; bytes = word_of l } ∷ more) end ≡ clauses_from limits m (n + 1) (literals ++ l ∷ []) more end
@@ -52,7 +36,7 @@ literal-taken limits m n l literals at more end small few one most =
     let sized : eqb (variable_of l) 0 ≡ false = grind (arith, nat_tests) in
     let room : leb limits.literals n ≡ false = grind (arith, nat_tests) in
     rw (number_of-literal_word (is_positive l) (variable_of l) one (omega arith), sized, within, room)
-    (ap (λ x. clauses_from limits m (n + 1) (literals ++ x ∷ []) more end) (code_from_parts l))
+    (ap (λ x. clauses_from limits m (n + 1) (literals ++ x ∷ []) more end) (signed-parts l))
 
 -- a clause in front of clauses that are read
 abbrev with_clause : List ℕ → List (List ℕ) → Result (List (List ℕ)) CnfRefusal
@@ -143,11 +127,8 @@ document-read limits variables n most clauses small low within few literals h =
     rw (
       header-read limits variables n 0 (line_end 0 line) within (omega arith) low,
       body-laid variables most (line_end 0 line + 1) clauses (omega arith) h,
-      clauses-read limits 1 0 clauses (line_end 0 line + 1) most small (omega arith) (omega arith) (λ k d low. within-more (get_or clauses k d) (h k d low)),
+      clauses-read limits 1 0 clauses (line_end 0 line + 1) most small (omega arith) (omega arith) (λ k d low. within-more variables limits.variables (get_or clauses k d) (omega arith) (h k d low)),
     ) refl
-  where
-    within-more : (clause : List ℕ) → IsWithin variables clause → IsWithin limits.variables clause
-    within-more clause g = within_smaller limits.variables clause (λ x i. let v = variable_within variables clause x g i in (v.0, omega (arith, v.1)))
 
 -- ---- the formula of the clauses
 

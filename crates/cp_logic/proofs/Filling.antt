@@ -108,7 +108,8 @@ IsFormula-placed f c v l e a w = record {
   within = All-with_clause (λ (d : Named). IsWithin f.variables d.clause) c f.clauses w v.within;
 }
 
-within-more : (variables more : ℕ) (clause : List ℕ) → variables ≤ more → IsWithin variables clause → IsWithin more clause
+-- a clause is within more variables too
+pub within-more : (variables more : ℕ) (clause : List ℕ) → variables ≤ more → IsWithin variables clause → IsWithin more clause
 within-more variables more clause l w =
     (w.0, all_from (λ k. nat_lt (k / 2) (more + 1)) clause (λ k i. let q : k / 2 < variables + 1 = ltb-true (k / 2) (variables + 1) (all_at (λ j. nat_lt (j / 2) (variables + 1)) clause k w.1 i) in lt-ltb (k / 2) (more + 1) (omega arith)))
 

@@ -1,11 +1,9 @@
 -- The literals of a pair and their clause.
-use Rattle.std.proofs.Common.{◌≡◌, ℕ, ◌+◌, ◌<◌, true, ltb, List, [], ◌∷◌, length, get_or, arith}
+use Rattle.std.proofs.Common.{◌≡◌, ℕ, ◌<◌, true, List, [], ◌∷◌, length, get_or, arith}
 use Rattle.std.proofs.lemmas.List.Elements.{Contains-get_or}
-use Rattle.cp_logic.specs.Literals.{variable_of}
 use Rattle.cp_logic.specs.Clauses.{contains, clause_of}
-use Rattle.cp_logic.specs.Formulas.{IsWithin}
-use Rattle.cp_logic.proofs.Members.{all_at, all_from, in_contains}
-use Rattle.cp_logic.proofs.SetFacts.{of_clause_of, in_clause_of}
+use Rattle.cp_logic.proofs.Members.{in_contains}
+use Rattle.cp_logic.proofs.SetFacts.{in_clause_of}
 
 -- a list's first number, whatever stands for that of an empty one
 pub first_same : (literals : List ℕ) (l : ℕ) → 0 < length literals → l ≡ get_or literals 0 l → l ≡ get_or literals 0 0
@@ -15,10 +13,3 @@ first_same (m ∷ literals) l some is = is
 -- the clause has the first literal
 pub first_in : (literals : List ℕ) (l : ℕ) → 0 < length literals → l ≡ get_or literals 0 l → contains (clause_of literals) l ≡ true
 first_in literals l some is = rw (is) (in_contains (clause_of literals) (get_or literals 0 l) (in_clause_of literals (get_or literals 0 l) (Contains-get_or literals 0 l some)))
-
--- a clause has the variables of its literals
-pub within-clause_of : (variables : ℕ) (literals : List ℕ) → IsWithin variables literals → IsWithin variables (clause_of literals)
-within-clause_of variables literals h = (
-  all_from (λ l. ltb 0 (variable_of l)) (clause_of literals) (λ l m. all_at (λ l. ltb 0 (variable_of l)) literals l h.0 (of_clause_of literals l m)),
-  all_from (λ l. ltb (variable_of l) (variables + 1)) (clause_of literals) (λ l m. all_at (λ l. ltb (variable_of l) (variables + 1)) literals l h.1 (of_clause_of literals l m)),
-)

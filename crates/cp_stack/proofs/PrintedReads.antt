@@ -1,16 +1,17 @@
 -- A printed stack is read as itself.
-use Rattle.std.proofs.Common.{◌≡◌, ℕ, suc, ◌+◌, ◌-◌, ◌%◌, ◌^◌, ◌<◌, ◌≤◌, Bool, true, false, eqb, leb, ltb, cond, List, [], ◌∷◌, ◌++◌, length, map, Result, Ok, refl, sym, ◌∙◌, ap, subst, arith, append_assoc, length-append, inl, inr}
+use Rattle.std.proofs.Common.{◌≡◌, ℕ, suc, ◌+◌, ◌-◌, ◌^◌, ◌<◌, ◌≤◌, Bool, true, false, eqb, leb, ltb, List, [], ◌∷◌, ◌++◌, length, map, Result, Ok, refl, sym, ◌∙◌, ap, subst, arith, append_assoc, length-append, inl, inr}
 use Rattle.std.specs.Prelude.{codes, flat_map, decimal}
 use Rattle.std.specs.List.{All, Contains}
 use Rattle.std.proofs.lemmas.Bool.Decides.{nat_tests}
 use Rattle.std.proofs.lemmas.Bool.{lt-leb, eqb-true, eqb-false}
 use Rattle.std.proofs.lemmas.List.{append-nil}
 use Rattle.cp_io.specs.declared.limits.Limits.{Limits}
-use Rattle.cp_logic.specs.Literals.{positive, negative, variable_of, is_positive}
+use Rattle.cp_logic.specs.Literals.{variable_of, is_positive}
 use Rattle.cp_logic.specs.Clauses.{contains, without, clause_of, IsAscending}
 use Rattle.cp_logic.specs.Formulas.{IsWithin}
 use Rattle.cp_logic.specs.Assignments.{Pair}
 use Rattle.cp_logic.proofs.Expansions.{within_smaller, variable_within}
+use Rattle.cp_logic.proofs.SignedLiterals.{signed-parts, first-within, rest-within}
 use Rattle.cp_logic.proofs.Members.{in_here, in_later, in_cases, contains-in}
 use Rattle.cp_logic.proofs.SetFacts.{of_clause_of, in_clause_of, IsAscending-clause_of, same_set, of_without, in_without}
 use Rattle.cp_stack.specs.Text.{stack_text, header_text, pair_text, literal_part}
@@ -22,15 +23,6 @@ use Rattle.cp_stack.specs.Laws.{IsPair, ReadsPrinted}
 use Rattle.cp_text.proofs.Cuts.{sees-all}
 use Rattle.cp_text.proofs.Printed.{IsWord, AreWords, AreLines, AreWords-append, literal-is_word, decimal-is_word, number_of-literal_word, number_of-decimal, laid, placed, placed_after, line_end, lines_from-printed}
 use Rattle.cp_stack.proofs.PrintedLines.{word_of, literals_line, pair_line, header_line, stack-lines}
-
--- ---- the code of a literal
-
-code_from_parts : (l : ℕ) → cond (is_positive l) (positive (variable_of l)) (negative (variable_of l)) ≡ l
-code_from_parts l = go (is_positive l) refl
-  where
-    go : (s : Bool) → is_positive l ≡ s → cond s (positive (variable_of l)) (negative (variable_of l)) ≡ l
-    go true e = let even : l % 2 ≡ 0 = eqb-true (l % 2) 0 e in omega arith
-    go false e = let odd : l % 2 ≡ 0 → ⊥ = eqb-false (l % 2) 0 e in omega arith
 
 -- ---- sets
 
@@ -61,13 +53,6 @@ within-pair variables p is = within_smaller variables (p.literal ∷ without p.c
       | inr j ↦ (of_without p.clause p.literal x j).0
     ]
 
--- the first literal, and those behind it
-first-within : (variables l : ℕ) (ls : List ℕ) → IsWithin variables (l ∷ ls) → (0 < variable_of l) × (variable_of l ≤ variables)
-first-within variables l ls h = variable_within variables (l ∷ ls) l h (in_here l l ls refl)
-
-rest-within : (variables l : ℕ) (ls : List ℕ) → IsWithin variables (l ∷ ls) → IsWithin variables ls
-rest-within variables l ls h = within_smaller variables ls (λ x i. variable_within variables (l ∷ ls) x h (in_later x l ls i))
-
 -- ---- words
 
 zero-is_word : IsWord (codes "0")
@@ -97,7 +82,7 @@ literal-taken variables left l literals at more end some small one most =
     let sized : eqb (variable_of l) 0 ≡ false = grind (arith, nat_tests) in
     let left_over : eqb left 0 ≡ false = grind (arith, nat_tests) in
     rw (number_of-literal_word (is_positive l) (variable_of l) one (omega arith), within, sized, left_over)
-    (ap (λ m. pairs_in variables left (literals ++ m ∷ []) more end) (code_from_parts l))
+    (ap (λ m. pairs_in variables left (literals ++ m ∷ []) more end) (signed-parts l))
 
 -- a pair is ended
 pair-ended : (variables left : ℕ) (literals : List ℕ) (at : ℕ) (more : List Word) (end : ℕ) → 0 < left → 0 < length literals

@@ -8,7 +8,7 @@ use Rattle.cp_io.specs.declared.limits.Limits.{Limits}
 use Rattle.cp_io.specs.declared.limits.Limit.TheVariants.{Variables, Bytes}
 use Rattle.cp_logic.specs.Assignments.{Pair}
 use Rattle.cp_logic.specs.Clauses.{clause_of}
-use Rattle.cp_logic.specs.Literals.{positive, negative}
+use Rattle.cp_logic.specs.Signs.{signed}
 use Rattle.cp_text.specs.Text.{Word, Line}
 use Rattle.cp_text.specs.Numbers.{NumberWord, number_of}
 use Rattle.cp_text.specs.Cut.{lines_within}
@@ -112,10 +112,6 @@ number_in w (Some n) = Ok n
 abbrev pub number_at : Word → Result NumberWord StackRefusal
 number_at w = number_in w (number_of w.bytes)
 
--- the literal that a number other than 0 stands for
-abbrev pub literal_of : NumberWord → ℕ
-literal_of n = if n.positive then positive n.size else negative n.size
-
 -- the first of these literals with the clause of all
 abbrev pub pair_with : List ℕ → Pair
 pair_with literals = record { literal = slice_index literals 0; clause = clause_of literals }
@@ -133,7 +129,7 @@ pairs_in variables left literals (w ∷ words) end = number_at w >>= λ n.
     else if n.size == 0 && length literals == 0 then bad w.at EmptyPair
     else if left == 0 then bad w.at Count
     else if n.size == 0 then pairs_in variables (left - 1) [] words end >>= with_pair (pair_with literals)
-    else pairs_in variables left (literals ++ literal_of n ∷ []) words end
+    else pairs_in variables left (literals ++ signed n.positive n.size ∷ []) words end
 
 -- ---- the text
 

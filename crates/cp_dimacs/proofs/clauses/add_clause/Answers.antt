@@ -1,6 +1,6 @@
 use Rattle.std.proofs.Common.{ap}
 use Rattle.cp_logic.specs.Formulas.{Formula}
-use Rattle.cp_dimacs.proofs.ClauseFacts.{within-clause_of}
+use Rattle.cp_logic.proofs.SignedLiterals.{within-clause_of}
 use Rattle.cp_dimacs.proofs.clauses.add_clause.Goals as goal
 
 pub push-requires-clause-within : goal.push-requires-clause-within

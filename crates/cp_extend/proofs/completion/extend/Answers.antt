@@ -4,7 +4,8 @@ use Rattle.cp_logic.specs.declared.pairs.Pair.{Pair}
 use Rattle.cp_logic.specs.Assignments.{completed}
 use Rattle.cp_logic.specs.Formulas.{IsWithin}
 use Rattle.cp_logic.specs.Pairs.{pair_of}
-use Rattle.cp_extend.proofs.Completions.{completed-last, within-more}
+use Rattle.cp_logic.proofs.Filling.{within-more}
+use Rattle.cp_extend.proofs.Completions.{completed-last}
 use Rattle.cp_extend.proofs.completion.extend.Goals as goal
 
 pub repair-requires : goal.repair-requires

@@ -1,7 +1,7 @@
 use Rattle.std.proofs.Common.{◌≡◌, ap, ◌∙◌}
 use Rattle.cp_logic.specs.Assignments.{Pair}
 use Rattle.cp_logic.specs.Clauses.{clause_of}
-use Rattle.cp_stack.proofs.PairFacts.{within-clause_of}
+use Rattle.cp_logic.proofs.SignedLiterals.{within-clause_of}
 use Rattle.cp_stack.proofs.reading.end_pair.Goals as goal
 
 pub push-requires : goal.push-requires
