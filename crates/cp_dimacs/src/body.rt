@@ -113,19 +113,18 @@ pub(crate) fn take_body(
     let mut rest = text;
     let mut at = place;
     'lines: loop {
-        match take_any_line(alloc, reading, rest, at, cut, limits)? {
+        let stop = match take_any_line(alloc, reading, rest, at, cut, limits)? {
+            LineAnswer::Stop(stop) => stop,
             LineAnswer::Ended(end) => {
                 close(reading, end)?;
                 return Ok(true);
             }
-            LineAnswer::Stop(stop) => {
-                let Some(after) = stop.rest else {
-                    close(reading, stop.at)?;
-                    return Ok(false);
-                };
-                at = stop.at + 1;
-                rest = after;
-            }
-        }
+        };
+        let Some(after) = stop.rest else {
+            close(reading, stop.at)?;
+            return Ok(false);
+        };
+        at = stop.at + 1;
+        rest = after;
     }
 }

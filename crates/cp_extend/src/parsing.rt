@@ -66,28 +66,21 @@ fn take_values<'a>(
     let mut rest = text;
     let mut from = place;
     'words: loop {
-        match next_seen(rest, from, cut) {
-            Item::Word {
-                at,
-                word,
-                rest: after,
-            } => {
-                if take_word(progress, at, word, limits)? {
-                    return Ok(None);
-                }
-                from = at + word.len() as u64;
-                rest = after;
-            }
-            Item::LineEnd { at, rest: after } => {
+        let (at, word, after) = match next_seen(rest, from, cut) {
+            Item::Word { at, word, rest } => (at, word, rest),
+            Item::LineEnd { at, rest } => {
                 return Ok(Some(LineStop {
                     at,
-                    rest: Some(after),
+                    rest: Some(rest),
                 }));
             }
-            Item::End { at } => {
-                return Ok(Some(LineStop { at, rest: None }));
-            }
+            Item::End { at } => return Ok(Some(LineStop { at, rest: None })),
+        };
+        if take_word(progress, at, word, limits)? {
+            return Ok(None);
         }
+        from = at + word.len() as u64;
+        rest = after;
     }
 }
 

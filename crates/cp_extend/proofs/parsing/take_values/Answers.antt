@@ -8,20 +8,20 @@ use Rattle.cp_text.proofs.LinesAhead.{some_line_seen}
 use Rattle.cp_extend.proofs.Steps.{values-word, values-ended, values-refused}
 use Rattle.cp_extend.proofs.parsing.take_values.Goals as goal
 
-pub returns-in_err-take_word-in-Word-clause-takes : goal.returns-in_err-take_word-in-Word-clause-takes
-returns-in_err-take_word-in-Word-clause-takes c =
+pub returns-in_err-take_word-clause-takes : goal.returns-in_err-take_word-clause-takes
+returns-in_err-take_word-clause-takes c =
     let p = err_from_is_err_and c.from_residual.result c.from_residual.ensures.1 in
     let w : Word = record { at = c.in-Word.at; bytes = c.in-Word.word.now } in
     let after = c.in-Word.at + length c.in-Word.word.now in
     rw (p.1, p.2) (values-refused c.args.limits.now c.args.cut (reading_of c.args.progress.now) (reading_of c.words.progress) w (lines_seen c.args.cut c.args.place c.args.text.now) (lines_seen c.args.cut c.words.from c.words.rest.now)
-    (lines_seen c.args.cut after c.in-Word.after.now) c.in_err-take_word-in-Word.field-0.0 (reading_of c.take_word.new.progress) c.words.invariant.goes_on c.in-Word.ensures.seen.0 (some_line_seen c.args.cut after c.in-Word.after.now) c.in_err-take_word-in-Word.ensures)
+    (lines_seen c.args.cut after c.in-Word.rest.now) c.in_err-take_word.field-0.0 (reading_of c.take_word.new.progress) c.words.invariant.goes_on c.in-Word.ensures.seen.0 (some_line_seen c.args.cut after c.in-Word.rest.now) c.in_err-take_word.ensures)
 
 pub returns-then-branch-clause-takes : goal.returns-then-branch-clause-takes
 returns-then-branch-clause-takes c =
     let w : Word = record { at = c.in-Word.at; bytes = c.in-Word.word.now } in
     let after = c.in-Word.at + length c.in-Word.word.now in
     c.words.invariant.goes_on ∙ ap (in_values c.args.limits.now (reading_of c.words.progress)) c.in-Word.ensures.seen.0
-    ∙ values-ended c.args.limits.now (reading_of c.words.progress) (reading_of c.take_word.new.progress) w (lines_seen c.args.cut after c.in-Word.after.now) (some_line_seen c.args.cut after c.in-Word.after.now) (rw c.if-branch.true at c.in_ok-take_word-in-Word.ensures)
+    ∙ values-ended c.args.limits.now (reading_of c.words.progress) (reading_of c.take_word.new.progress) w (lines_seen c.args.cut after c.in-Word.rest.now) (some_line_seen c.args.cut after c.in-Word.rest.now) (rw c.if-branch.true at c.in_ok-take_word.ensures)
 
 pub words-preserved : goal.words-preserved
 words-preserved c =
@@ -29,7 +29,7 @@ words-preserved c =
     let after = c.in-Word.at + length c.in-Word.word.now in
     record {
       goes_on = c.words.invariant.goes_on ∙ ap (in_values c.args.limits.now (reading_of c.words.progress)) c.in-Word.ensures.seen.0
-          ∙ values-word c.args.limits.now (reading_of c.words.progress) (reading_of c.take_word.new.progress) w (lines_seen c.args.cut after c.in-Word.after.now) (rw c.if-branch.false at c.in_ok-take_word-in-Word.ensures);
+          ∙ values-word c.args.limits.now (reading_of c.words.progress) (reading_of c.take_word.new.progress) w (lines_seen c.args.cut after c.in-Word.rest.now) (rw c.if-branch.false at c.in_ok-take_word.ensures);
       later = omega (arith, c.in-Word.ensures.seen.2, c.words.invariant.later);
       length = omega (arith, c.in-Word.ensures.seen.3, c.words.invariant.length);
     }
