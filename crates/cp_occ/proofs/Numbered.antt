@@ -1,14 +1,15 @@
 -- Numbered clauses by ascending number: what stands under a number, what a search by the number finds, and a removal.
-use Rattle.std.proofs.Common.{◌≡◌, ℕ, zero, suc, ◌<◌, ◌≤◌, cond, not, eqb, List, [], ◌∷◌, ◌++◌, length, map, get_or, Some, None, Result, Ok, Err, IfSome, IfNone, refl, sym, ◌∙◌, ap, subst, inl, inr, arith}
-use Rattle.std.specs.Prelude.{◌==◌, ◌≢◌, IsTrue}
-use Rattle.std.specs.List.{Contains, All, remove}
-use Rattle.std.specs.List.Sorted.{IsSearchInRange, IsBinarySearchResult, IsNonDecreasingBy}
+use Rattle.std.proofs.Common.{◌≡◌, ℕ, zero, suc, ◌<◌, ◌≤◌, cond, not, eqb, ltb, Bool, true, false, drop, List, [], ◌∷◌, ◌++◌, length, map, get_or, Some, None, Result, Ok, Err, IfSome, IfNone, refl, sym, ◌∙◌, ap, subst, inl, inr, arith}
+use Rattle.std.specs.Prelude.{◌==◌, ◌≢◌, IsTrue, nat_le}
+use Rattle.std.specs.List.{Contains, All, remove, filter}
+use Rattle.std.specs.List.Sorted.{IsSearchInRange, IsBinarySearchResult, IsNonDecreasingBy, IsPartitionedBy, IsPartitionPoint}
 use Rattle.std.specs.Result.{result_ok}
 use Rattle.std.specs.Ordering.{nat_cmp, ordering_index}
 use Rattle.std.proofs.lemmas.Bool.{eq-eqb, ne_eqb, not_from_false, cases_eq, cases_order}
 use Rattle.std.proofs.lemmas.Bool.Decides.{nat_tests}
 use Rattle.std.proofs.lemmas.Cmp.{ranked}
 use Rattle.std.proofs.lemmas.List.{map-append}
+use Rattle.std.proofs.lemmas.List.Sorted.{IsPartitionedBy-ltb}
 use Rattle.std.proofs.lemmas.List.Elements.{All-contains, All-push, Contains-get_or, All-filter}
 use Rattle.cp_logic.specs.declared.named.Named.{Named}
 use Rattle.cp_logic.specs.Clauses.{has_variable, IsAscending}
@@ -17,7 +18,7 @@ use Rattle.cp_logic.proofs.Members.{in_map, of_map}
 use Rattle.cp_logic.proofs.Ascending.{below_others, IsAscending-push, IsAscending-numbers}
 use Rattle.cp_logic.proofs.Eliminations.{filter_all}
 use Rattle.cp_logic.proofs.Locals.{find_none}
-use Rattle.cp_occ.specs.Cells.{IsOf, IsListed}
+use Rattle.cp_occ.specs.Cells.{IsOf, IsListed, from_number}
 
 -- ---- the order
 
@@ -65,6 +66,30 @@ module _ {X : Type 0} (key : X → ℕ) where
         | inr (inl q) ↦ let l : key (get_or xs k d) < n = ranked _ n _ (sym (halves.0 k d (omega arith) q)) in omega arith
         | inr (inr q) ↦ let g : n < key (get_or xs k d) = ranked _ n _ (sym (halves.1 k d (omega arith) h)) in omega arith
       ]
+
+-- ---- the clauses from a number on
+
+-- of a list whose items pass from a position on, and not before it, the rest is those that pass
+rest-passes : {X : Type 0} (q : X → Bool) (xs : List X) (k : ℕ) → k ≤ length xs → ((i : ℕ) (d : X) → i < k → q (get_or xs i d) ≡ false)
+    → ((i : ℕ) (d : X) → k ≤ i → i < length xs → q (get_or xs i d) ≡ true) → drop k xs ≡ filter q xs
+rest-passes q xs zero w f t = sym (filter_all q xs (λ x m. subst (λ z. q z ≡ true) m.2 (t m.0 x (omega arith) m.1)))
+rest-passes q [] (suc k) w f t = absurd (omega arith)
+rest-passes q (x ∷ xs) (suc k) w f t =
+    subst (λ b. drop k xs ≡ cond b (x ∷ filter q xs) (filter q xs)) (sym (f zero x (omega arith)))
+    (rest-passes q xs k (omega arith) (λ i d l. f (suc i) d (omega arith)) (λ i d l h. t (suc i) d (omega arith) (omega arith)))
+
+-- a search for the place of a number splits the clauses there
+pub parted-by_number : (cs : List Named) (n : ℕ) → IsAscending (numbers_of cs) → IsPartitionedBy (λ (c : Named). ltb c.number n) cs
+parted-by_number cs n a = IsPartitionedBy-ltb (λ (c : Named). c.number) cs n (λ i j d le h. elim (cases_eq i j) [
+  | inl e ↦ subst (λ (k : ℕ). (get_or cs i d).number ≤ (get_or cs k d).number) e (omega arith)
+  | inr ne ↦ let l = earlier (λ (c : Named). c.number) cs i j d a (omega arith) h in omega (arith, l)
+])
+
+pub from-point : (cs : List Named) (n k : ℕ) → k ≤ length cs → IsPartitionPoint (λ (c : Named). ltb c.number n ≡ true) (λ (c : Named). ltb c.number n ≡ false) cs k
+    → drop k cs ≡ from_number n cs
+from-point cs n k w p = rest-passes (λ (c : Named). nat_le n c.number) cs k w
+    (λ i d l. let e : ltb (get_or cs i d).number n ≡ true = p.0 i d (omega arith) l in grind (arith, nat_tests))
+    (λ i d l h. let e : ltb (get_or cs i d).number n ≡ false = p.1 i d l h in grind (arith, nat_tests))
 
 -- ---- a look-up and a removal
 

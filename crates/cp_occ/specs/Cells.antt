@@ -1,6 +1,6 @@
 -- Cells. A cell is seen as its variable and the numbered clauses that have the variable, by ascending number.
-use Rattle.std.specs.Prelude.{◌≡◌, ℕ, ◌+◌, ◌<◌, ◌≤◌, ◌==◌, List, [], ◌∷◌, ◌++◌, map, length, slice_index_or, if◌then◌else◌, IsTrue}
-use Rattle.std.specs.List.{All}
+use Rattle.std.specs.Prelude.{◌≡◌, ℕ, ◌+◌, ◌<◌, ◌≤◌, ◌==◌, nat_le, List, [], ◌∷◌, ◌++◌, map, length, slice_index_or, if◌then◌else◌, IsTrue}
+use Rattle.std.specs.List.{All, filter}
 use Rattle.cp_logic.specs.declared.named.Named.{Named}
 use Rattle.cp_logic.specs.Literals.{variable_of}
 use Rattle.cp_logic.specs.Clauses.{has_variable, IsAscending}
@@ -26,6 +26,10 @@ pub record IsListed (x : ℕ) (cs : List Named) : Type 0 where
 
 abbrev pub IsCell : CellView → Type 0
 IsCell cell = IsListed cell.variable cell.clauses
+
+-- the clauses whose numbers are n or above it
+abbrev pub from_number : ℕ → List Named → List Named
+from_number n cs = filter (λ c. nat_le n c.number) cs
 
 -- the variables of literals in their order, each once where its literals stand together, and not the one that came last
 abbrev pub variables_after : ℕ → List ℕ → List ℕ

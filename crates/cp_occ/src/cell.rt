@@ -7,6 +7,7 @@ ghost use Rattle.cp_logic.specs.Clauses.{has_variable, is_tautology, IsAscending
 ghost use Rattle.cp_logic.specs.Formulas.{numbers_of, find_number, without_number};
 ghost use Rattle.cp_logic.specs.Legality.{clauses_with};
 ghost use Rattle.cp_logic.specs.Items.{named_item};
+ghost use Rattle.cp_occ.specs.Cells.{from_number};
 
 use crate::iter::{CellIter, LiteralIter};
 use crate::occurrence::Occurrence;
@@ -93,6 +94,16 @@ impl Cell {
         CellIter {
             left: self.occurrences.as_slice(),
         }
+    }
+
+    /// The clauses whose numbers are this one or above it, with their numbers, by ascending number. The first is found by a binary search.
+    pub fn iter_from(&self, number: u64) -> CellIter<'_>
+        ensures { result ≡ from_number number self.now.clauses }
+    {
+        let all = self.occurrences.as_slice();
+        let at = all.partition_point(|occurrence| occurrence.number() < number);
+        let (_, left) = all.split_at(at);
+        CellIter { left }
     }
 
     /// The clauses with the variable itself, with their numbers, by ascending number.
