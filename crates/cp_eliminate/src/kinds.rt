@@ -8,18 +8,19 @@ ghost use Rattle.std.specs.Prelude.{◌≡◌, ◌≤◌, ◌^◌, IfOk};
 ghost use Rattle.std.specs.Option.{option_map, option_or};
 ghost use Rattle.cp_logic.specs.Legality.{first_in, tauts, subsumptions, strengthenings, blocks, first_of_kind};
 ghost use Rattle.cp_logic.specs.Views.{entry_of};
+ghost use Rattle.cp_find.specs.Past.{IsPast};
 ghost use Rattle.cp_eliminate.specs.Chosen.{where_chosen};
 ghost use Rattle.cp_eliminate.specs.Eliminating.{elimination_within};
 
 use crate::elimination::try_eliminate;
 use cp_blocked::first_blocked;
-use cp_find::{Lookup, first_taut, strengthened_in, subsumed_in};
+use cp_find::{Others, Reached, next_strengthened, next_subsumed, next_taut};
 use cp_logic::{Entry, Rules};
 use cp_occ::Cell;
 use std::alloc::{AllocError, Global};
 
 /// The first entry of the chosen techniques at the cell's variable, or `None` where none applies there. New clauses are numbered
-/// from `next` on.
+/// from `next` on. What the searches at the variable have passed is not searched again, and is left in `reached` for the next one.
 ///
 /// The error comes for want of memory, which is also the answer where a new clause's number would pass a `u64`.
 pub fn search(
@@ -27,14 +28,17 @@ pub fn search(
     cell: &Cell,
     rules: &Rules,
     next: u64,
+    reached: &mut Reached,
 ) -> Result<Option<Entry>, AllocError>
-    requires { next ≤ 2 ^ 40 }
-    ensures { IfOk result (λ found. option_map entry_of found ≡ first_in cell.now.clauses rules.now next cell.now.variable) }
+    requires numbers { next ≤ 2 ^ 40 }
+    requires past { IsPast cell.now.variable cell.now.clauses reached.old }
+    ensures found { IfOk result (λ found. option_map entry_of found ≡ first_in cell.now.clauses rules.now next cell.now.variable) }
+    ensures past { IsPast cell.now.variable cell.now.clauses reached.new }
 {
-    if let Some(entry) = chosen_taut(alloc, cell, rules, next)? {
+    if let Some(entry) = chosen_taut(cell, rules, reached)? {
         return Ok(Some(entry));
     }
-    if let Some(entry) = chosen_of_two(alloc, cell, rules, next)? {
+    if let Some(entry) = chosen_of_two(alloc, cell, rules, next, reached)? {
         return Ok(Some(entry));
     }
     if let Some(entry) = chosen_blocked(alloc, cell, rules)? {
@@ -44,18 +48,18 @@ pub fn search(
 }
 
 fn chosen_taut(
-    alloc: Global,
     cell: &Cell,
     rules: &Rules,
-    next: u64,
+    reached: &mut Reached,
 ) -> Result<Option<Entry>, AllocError>
-    requires { next ≤ 2 ^ 40 }
-    ensures { IfOk result (λ found. option_map entry_of found ≡ where_chosen rules.now.choice.t (first_of_kind cell.now.variable cell.now.clauses (tauts cell.now.clauses))) }
+    requires { IsPast cell.now.variable cell.now.clauses reached.old }
+    ensures found { IfOk result (λ found. option_map entry_of found ≡ where_chosen rules.now.choice.t (first_of_kind cell.now.variable cell.now.clauses (tauts cell.now.clauses))) }
+    ensures past { IsPast cell.now.variable cell.now.clauses reached.new }
 {
     if !rules.choice.t {
         return Ok(None);
     }
-    first_taut(alloc, cell, next)
+    next_taut(cell, reached)
 }
 
 // A subsumption, or else a strengthening. Both look at the same pairs of clauses, so the cell is made ready once.
@@ -64,51 +68,59 @@ fn chosen_of_two(
     cell: &Cell,
     rules: &Rules,
     next: u64,
+    reached: &mut Reached,
 ) -> Result<Option<Entry>, AllocError>
-    requires { next ≤ 2 ^ 40 }
-    ensures { IfOk result (λ found. option_map entry_of found ≡ option_or
+    requires numbers { next ≤ 2 ^ 40 }
+    requires past { IsPast cell.now.variable cell.now.clauses reached.old }
+    ensures found { IfOk result (λ found. option_map entry_of found ≡ option_or
         (where_chosen rules.now.choice.s (first_of_kind cell.now.variable cell.now.clauses (subsumptions cell.now.clauses)))
         (where_chosen rules.now.choice.x (first_of_kind cell.now.variable cell.now.clauses (strengthenings cell.now.clauses next)))) }
+    ensures past { IsPast cell.now.variable cell.now.clauses reached.new }
 {
-    if !rules.choice.s && !rules.choice.x {
-        return Ok(None);
-    }
-    let lookup = Lookup::of_cell(alloc, cell)?;
-    if let Some(entry) = chosen_subsumption(cell, &lookup, rules)? {
+    let mut others = Others::of_cell(cell);
+    if let Some(entry) = chosen_subsumption(alloc, cell, &mut others, rules, reached)? {
         return Ok(Some(entry));
     }
-    chosen_strengthening(alloc, cell, &lookup, rules, next)
+    chosen_strengthening(alloc, cell, &mut others, rules, next, reached)
 }
 
 fn chosen_subsumption(
+    alloc: Global,
     cell: &Cell,
-    lookup: &Lookup<'_>,
+    others: &mut Others<'_>,
     rules: &Rules,
+    reached: &mut Reached,
 ) -> Result<Option<Entry>, AllocError>
-    requires { lookup.now ≡ cell.now.clauses }
-    ensures { IfOk result (λ found. option_map entry_of found ≡ where_chosen rules.now.choice.s (first_of_kind cell.now.variable cell.now.clauses (subsumptions cell.now.clauses))) }
+    requires clauses { others.old ≡ cell.now.clauses }
+    requires past { IsPast cell.now.variable cell.now.clauses reached.old }
+    ensures found { IfOk result (λ found. option_map entry_of found ≡ where_chosen rules.now.choice.s (first_of_kind cell.now.variable cell.now.clauses (subsumptions cell.now.clauses))) }
+    ensures past { IsPast cell.now.variable cell.now.clauses reached.new }
+    ensures clauses { others.new ≡ others.old }
 {
     if !rules.choice.s {
         return Ok(None);
     }
-    subsumed_in(cell, lookup)
+    next_subsumed(alloc, cell, others, reached)
 }
 
 fn chosen_strengthening(
     alloc: Global,
     cell: &Cell,
-    lookup: &Lookup<'_>,
+    others: &mut Others<'_>,
     rules: &Rules,
     next: u64,
+    reached: &mut Reached,
 ) -> Result<Option<Entry>, AllocError>
     requires numbers { next ≤ 2 ^ 40 }
-    requires clauses { lookup.now ≡ cell.now.clauses }
-    ensures { IfOk result (λ found. option_map entry_of found ≡ where_chosen rules.now.choice.x (first_of_kind cell.now.variable cell.now.clauses (strengthenings cell.now.clauses next))) }
+    requires clauses { others.old ≡ cell.now.clauses }
+    requires past { IsPast cell.now.variable cell.now.clauses reached.old }
+    ensures found { IfOk result (λ found. option_map entry_of found ≡ where_chosen rules.now.choice.x (first_of_kind cell.now.variable cell.now.clauses (strengthenings cell.now.clauses next))) }
+    ensures past { IsPast cell.now.variable cell.now.clauses reached.new }
 {
     if !rules.choice.x {
         return Ok(None);
     }
-    strengthened_in(alloc, cell, lookup, next)
+    next_strengthened(alloc, cell, others, next, reached)
 }
 
 fn chosen_blocked(alloc: Global, cell: &Cell, rules: &Rules) -> Result<Option<Entry>, AllocError>

@@ -3,6 +3,7 @@ ghost use Rattle.std.specs.Prelude.{◌≡◌};
 ghost use Rattle.cp_logic.specs.Clauses.{has_variable};
 
 use crate::{search, try_eliminate};
+use cp_find::Reached;
 use cp_logic::{Choice, Clause, Entry, Lit, Named, NamedList, Rules};
 use cp_occ::{Cell, Place};
 use std::alloc::{AllocError, Global};
@@ -86,7 +87,7 @@ fn searches(rt: HostRuntime) -> Result<(), Fail> {
             bound: 0,
             budget: 0,
         };
-        let found = search(rt.alloc(), &cell, &rules, 6)?;
+        let found = search(rt.alloc(), &cell, &rules, 6, &mut Reached::start())?;
         assert_eq!(rt; text_of(rt.alloc(), found)?.as_str(), expected);
     }
     Ok(())

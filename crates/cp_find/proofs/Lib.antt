@@ -6,3 +6,4 @@ pub mod Searches
 pub mod Candidates
 pub mod Least
 pub mod Searched
+pub mod Past

@@ -11,7 +11,9 @@
 
 pub mod laws;
 mod lookup;
+mod others;
 mod pairs;
+mod reached;
 mod signatures;
 mod strengthening;
 mod subsumption;
@@ -20,8 +22,9 @@ mod tautology;
 mod tests;
 mod wanted;
 
-pub use lookup::Lookup;
+pub use others::Others;
+pub use reached::Reached;
 pub use signatures::signature;
-pub use strengthening::{first_strengthened, strengthened_in};
-pub use subsumption::{first_subsumed, subsumed_in};
-pub use tautology::first_taut;
+pub use strengthening::{first_strengthened, next_strengthened};
+pub use subsumption::{first_subsumed, next_subsumed};
+pub use tautology::{first_taut, next_taut};

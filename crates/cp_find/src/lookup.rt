@@ -32,7 +32,7 @@ const MOST_TIMES: usize = 8;
 /// The clauses of a cell with their signatures, and their buckets where they are many, seen as the list of the clauses. The finders
 /// of pairs read it, and it is made once for all of them.
 #[derive(Drop)]
-pub struct Lookup<'a> {
+pub(crate) struct Lookup<'a> {
     clauses: Vec<Signed<'a>>,
     buckets: Vec<Bucket<'a>>,
 }
@@ -51,7 +51,7 @@ impl<'a> Model for Lookup<'a> {
 
 impl<'a> Lookup<'a> {
     /// The clauses of the cell. The error comes only for want of memory.
-    pub fn of_cell(alloc: Global, cell: &'a Cell) -> Result<Lookup<'a>, AllocError>
+    pub(crate) fn of_cell(alloc: Global, cell: &'a Cell) -> Result<Lookup<'a>, AllocError>
         ensures { IfOk result (λ l. l ≡ cell.now.clauses) }
     {
         let clauses = signed(alloc, cell)?;

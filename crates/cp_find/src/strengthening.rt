@@ -16,9 +16,11 @@ ghost use Rattle.cp_logic.specs.Clauses.{contains, is_subset, IsAscending};
 ghost use Rattle.cp_logic.specs.Legality.{strengthenings, first_of_kind};
 ghost use Rattle.cp_logic.specs.Views.{entry_of};
 ghost use Rattle.cp_find.specs.Finds.{struck, turned, strengthens};
+ghost use Rattle.cp_find.specs.Past.{IsPast, first_other};
 
-use crate::lookup::Lookup;
+use crate::others::Others;
 use crate::pairs::named;
+use crate::reached::{Pair, Reached};
 use crate::wanted::Wanted;
 use cp_logic::{Clause, Entry, Lit, Named};
 use cp_occ::Cell;
@@ -36,38 +38,53 @@ pub fn first_strengthened(
     requires { next ≤ 2 ^ 40 }
     ensures { IfOk result (λ o. option_map entry_of o ≡ first_of_kind cell.now.variable cell.now.clauses (strengthenings cell.now.clauses next)) }
 {
-    let lookup = Lookup::of_cell(alloc, cell)?;
-    strengthened_in(alloc, cell, &lookup, next)
+    next_strengthened(
+        alloc,
+        cell,
+        &mut Others::of_cell(cell),
+        next,
+        &mut Reached::start(),
+    )
 }
 
-/// The same as `first_strengthened`, with a lookup of the cell's clauses at hand.
-pub fn strengthened_in(
+/// The same as `first_strengthened`, with the cell's clauses at hand, from where the last search at the variable came to.
+pub fn next_strengthened(
     alloc: Global,
     cell: &Cell,
-    lookup: &Lookup<'_>,
+    others: &mut Others<'_>,
     next: u64,
+    reached: &mut Reached,
 ) -> Result<Option<Entry>, AllocError>
     requires numbers { next ≤ 2 ^ 40 }
-    requires clauses { lookup.now ≡ cell.now.clauses }
-    ensures { IfOk result (λ o. option_map entry_of o ≡ first_of_kind cell.now.variable cell.now.clauses (strengthenings cell.now.clauses next)) }
+    requires clauses { others.old ≡ cell.now.clauses }
+    requires past { IsPast cell.now.variable cell.now.clauses reached.old }
+    ensures found { IfOk result (λ o. option_map entry_of o ≡ first_of_kind cell.now.variable cell.now.clauses (strengthenings cell.now.clauses next)) }
+    ensures past { IsPast cell.now.variable cell.now.clauses reached.new }
+    ensures clauses { others.new ≡ others.old }
 {
     let var = cell.var();
+    let Some(end) = reached.strengthening else {
+        return Ok(None);
+    };
     let mut wanted = Vec::new(alloc);
-    for (number, by) in cell.iter() {
+    for (number, by) in cell.iter_from(end.by) {
         let Some(lit) = struck(by, var) else {
             continue;
         };
         fill_turned(&mut wanted, by.lits(), lit)?;
-        if let Some((other, on)) = lookup.first(&Wanted::new(number, wanted.as_slice())) {
+        let turned = Wanted::new(number, wanted.as_slice());
+        if let Some((other, on)) = others.first_from(alloc, end.first_other(number), &turned)? {
             let by = named(number, by)?;
             let new = Named {
                 number: next,
                 clause: on.without(alloc, lit)?,
             };
             let on = named(other, on)?;
+            reached.strengthening = Some(Pair { by: number, other });
             return Ok(Some(Entry::Strengthen { by, on, lit, new }));
         }
     }
+    reached.strengthening = None;
     Ok(None)
 }
 

@@ -7,8 +7,10 @@ ghost use Rattle.std.specs.Prelude.{◌≡◌, ◌≤◌, ◌^◌, IfOk};
 ghost use Rattle.std.specs.Option.{option_map};
 ghost use Rattle.cp_logic.specs.Legality.{tauts, first_of_kind};
 ghost use Rattle.cp_logic.specs.Views.{entry_of};
+ghost use Rattle.cp_find.specs.Past.{IsPast};
 
 use crate::pairs::named;
+use crate::reached::Reached;
 use cp_logic::Entry;
 use cp_occ::Cell;
 use std::alloc::{AllocError, Global};
@@ -20,13 +22,27 @@ pub fn first_taut(_alloc: Global, cell: &Cell, next: u64) -> Result<Option<Entry
     requires { next ≤ 2 ^ 40 }
     ensures { IfOk result (λ o. option_map entry_of o ≡ first_of_kind cell.now.variable cell.now.clauses (tauts cell.now.clauses)) }
 {
+    next_taut(cell, &mut Reached::start())
+}
+
+/// The same as `first_taut`, from where the last search at the variable came to.
+pub fn next_taut(cell: &Cell, reached: &mut Reached) -> Result<Option<Entry>, AllocError>
+    requires { IsPast cell.now.variable cell.now.clauses reached.old }
+    ensures found { IfOk result (λ o. option_map entry_of o ≡ first_of_kind cell.now.variable cell.now.clauses (tauts cell.now.clauses)) }
+    ensures past { IsPast cell.now.variable cell.now.clauses reached.new }
+{
     // It says of the cell that each clause has the variable.
     let _ = cell.var();
-    for (number, clause) in cell.iter() {
+    let Some(from) = reached.tautology else {
+        return Ok(None);
+    };
+    for (number, clause) in cell.iter_from(from) {
         if clause.is_tautology() {
             let gone = named(number, clause)?;
+            reached.tautology = Some(number);
             return Ok(Some(Entry::Taut { gone }));
         }
     }
+    reached.tautology = None;
     Ok(None)
 }

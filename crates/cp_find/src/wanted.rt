@@ -4,6 +4,7 @@ ghost use Rattle.std.specs.List.{find};
 ghost use Rattle.std.specs.Option.{option_map};
 ghost use Rattle.cp_logic.specs.Clauses.{contains, is_subset, IsAscending};
 ghost use Rattle.cp_logic.specs.Items.{named_item};
+ghost use Rattle.cp_logic.specs.declared.named.Named.{Named};
 ghost use Rattle.cp_find.specs.Finds.{subsumes};
 
 use crate::signatures::signature;
@@ -61,6 +62,13 @@ impl<'a> Wanted<'a> {
             return false;
         }
         is_within(self.lits, other.clause.lits())
+    }
+
+    /// The same of a clause without a signature.
+    pub(crate) fn is_in(&self, number: u64, clause: &Clause) -> bool
+        ensures { result ≡ subsumes self.now (record { number = number; clause = clause.now }) }
+    {
+        self.number != number && is_within(self.lits, clause.lits())
     }
 }
 

@@ -17,28 +17,28 @@ found o e q s h = sym (ap (option_map entry_of) s) ∙ h
 nothing : (o : Option HeldEntry) (q : Option Entry) → o ≡ None → option_map entry_of o ≡ q → None ≡ q
 nothing o q s h = sym (ap (option_map entry_of) s) ∙ h
 
-pub returns-in-Some : goal.returns-in-Some
-returns-in-Some c = is-taut c.args.cell.now.clauses c.args.rules.now c.args.next c.args.cell.now.variable (entry_of c.in-Some.entry)
-    (found c.in_ok-entry.field-0 c.in-Some.entry _ c.in-Some.is c.in_ok-entry.ensures)
+pub returns-in-Some-clause-found : goal.returns-in-Some-clause-found
+returns-in-Some-clause-found c = is-taut c.args.cell.now.clauses c.args.rules.now c.args.next c.args.cell.now.variable (entry_of c.in-Some.entry)
+    (found c.in_ok-entry.field-0 c.in-Some.entry _ c.in-Some.is c.in_ok-entry.ensures.found)
 
-pub returns-in-Some-2 : goal.returns-in-Some-2
-returns-in-Some-2 c = is-of-two c.args.cell.now.clauses c.args.rules.now c.args.next c.args.cell.now.variable (entry_of c.in-Some-2.entry)
-    (nothing c.in_ok-entry.field-0 _ c.in_default.is c.in_ok-entry.ensures)
-    (found c.in_ok-entry-2.field-0 c.in-Some-2.entry _ c.in-Some-2.is c.in_ok-entry-2.ensures)
+pub returns-in-Some-2-clause-found : goal.returns-in-Some-2-clause-found
+returns-in-Some-2-clause-found c = is-of-two c.args.cell.now.clauses c.args.rules.now c.args.next c.args.cell.now.variable (entry_of c.in-Some-2.entry)
+    (nothing c.in_ok-entry.field-0 _ c.in_default.is c.in_ok-entry.ensures.found)
+    (found c.in_ok-entry-2.field-0 c.in-Some-2.entry _ c.in-Some-2.is c.in_ok-entry-2.ensures.found)
 
-pub returns-in-Some-3 : goal.returns-in-Some-3
-returns-in-Some-3 c = is-blocked c.args.cell.now.clauses c.args.rules.now c.args.next c.args.cell.now.variable (entry_of c.in-Some-3.entry)
-    (nothing c.in_ok-entry.field-0 _ c.in_default.is c.in_ok-entry.ensures)
-    (nothing c.in_ok-entry-2.field-0 _ c.in_default-2.is c.in_ok-entry-2.ensures)
+pub returns-in-Some-3-clause-found : goal.returns-in-Some-3-clause-found
+returns-in-Some-3-clause-found c = is-blocked c.args.cell.now.clauses c.args.rules.now c.args.next c.args.cell.now.variable (entry_of c.in-Some-3.entry)
+    (nothing c.in_ok-entry.field-0 _ c.in_default.is c.in_ok-entry.ensures.found)
+    (nothing c.in_ok-entry-2.field-0 _ c.in_default-2.is c.in_ok-entry-2.ensures.found)
     (found c.in_ok-entry-3.field-0 c.in-Some-3.entry _ c.in-Some-3.is c.in_ok-entry-3.ensures)
 
-pub returns : goal.returns
-returns c =
+pub returns-clause-found : goal.returns-clause-found
+returns-clause-found c =
     let x = c.args.cell.now.variable in let cs = c.args.cell.now.clauses in
     IfOk-weaker c.chosen_elimination.result (λ found. option_map entry_of found ≡ where_chosen c.args.rules.now.choice.e (elimination_within cs c.args.rules.now.bound c.args.next x))
     (λ found. option_map entry_of found ≡ first_in cs c.args.rules.now c.args.next x)
     (λ found h. h ∙ after-blocked cs c.args.rules.now c.args.next x
-    (nothing c.in_ok-entry.field-0 _ c.in_default.is c.in_ok-entry.ensures)
-    (nothing c.in_ok-entry-2.field-0 _ c.in_default-2.is c.in_ok-entry-2.ensures)
+    (nothing c.in_ok-entry.field-0 _ c.in_default.is c.in_ok-entry.ensures.found)
+    (nothing c.in_ok-entry-2.field-0 _ c.in_default-2.is c.in_ok-entry-2.ensures.found)
     (nothing c.in_ok-entry-3.field-0 _ c.in_default-3.is c.in_ok-entry-3.ensures))
     c.chosen_elimination.ensures

@@ -1,9 +1,0 @@
-use Rattle.std.proofs.Common.{◌≡◌}
-use Rattle.std.specs.List.{find}
-use Rattle.cp_logic.specs.declared.named.Named.{Named}
-use Rattle.cp_logic.specs.Clauses.{is_tautology}
-use Rattle.cp_find.proofs.tautology.first_taut.Given as goal
-
--- the first tautology is the first of those that are left
-abbrev pub invariant-loop-number : goal.invariant-loop-number
-invariant-loop-number l = find (λ (c : Named). is_tautology c.clause) l.number-iterator ≡ find (λ (c : Named). is_tautology c.clause) l.cell.clauses
