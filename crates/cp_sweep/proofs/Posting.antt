@@ -4,10 +4,12 @@ use Rattle.std.specs.Prelude.{is_some, nat_le}
 use Rattle.std.proofs.lemmas.Bool.Decides.{nat_tests}
 use Rattle.cp_logic.specs.declared.settings.Rules.{Rules}
 use Rattle.cp_logic.specs.declared.settings.Stop.TheVariants.{Refuted as StopRefuted, Spent as StopSpent}
-use Rattle.cp_logic.specs.Formulas.{Formula, IsFormula, has_empty}
+use Rattle.cp_logic.specs.Formulas.{Formula, IsFormula, has_empty, occurrences}
 use Rattle.cp_logic.specs.Rules.{Rule, Add, Drop, Weaken, State, state_after, applied, added, removed}
 use Rattle.cp_logic.specs.Entries.{Entry, expand, new_clauses, numbered}
 use Rattle.cp_logic.specs.Legality.{is_legal}
+use Rattle.cp_logic.specs.Locality.{after}
+use Rattle.cp_logic.proofs.Changes.{change-local}
 use Rattle.cp_logic.specs.Journals.{Post, folded, start_of, commits, number_limit}
 use Rattle.cp_logic.proofs.JournalRuns.{folded-push}
 use Rattle.cp_logic.specs.Sweeps.{is_spent}
@@ -71,6 +73,13 @@ module _ (b : BookView) (e : Entry) (n : e ≡ numbered (current b).next e) wher
 
   left-is : current (with_post b 0 0 e) ≡ (state_after (start_of (current b)) (expand e)).formula
   left-is = ap (λ (ps : List Post). (folded b.first ps).formula) posts-are ∙ ap (λ (s : State). s.formula) (folded-push b.first b.posts (sweep_post e)) ∙ only-formula (folded b.first b.posts) (expand e)
+
+  -- the clauses of a variable in it
+  pub posted-occurrences : (rules : Rules) (x : ℕ) → IsFormula (current b) → is_legal (current b) rules e ≡ true
+      → occurrences (current (with_post b 0 0 e)).clauses x ≡ after (occurrences (current b).clauses x) x (numbered (current b).next e)
+  posted-occurrences rules x v h =
+      ap (λ (f : Formula). occurrences f.clauses x) left-is ∙ change-local (start_of (current b)) rules x e v h n
+      ∙ ap (after (occurrences (current b).clauses x) x) n
 
   -- its cells are those of what it leaves
   pub posted-cells : (rules : Rules) (old new : List CellView) → IsFormula (current b) → is_legal (current b) rules e ≡ true → AreCellsOf (current b) old

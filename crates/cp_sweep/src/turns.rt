@@ -4,11 +4,13 @@
 //! and the cells follow, and the mark stays for a next search; where it gives nothing, the mark goes on. What applies at a variable
 //! is decided by its clauses, so the mark passes over each variable whose clauses stand as the last search there left them, and the
 //! sweep ends once that is so of all. A round takes the time of its searches: to search each variable again until a whole round
-//! gives nothing would take that of all clauses for each few entries.
+//! gives nothing would take that of all clauses for each few entries. While the mark stays, each search goes on behind what the last
+//! one found there.
 
-ghost use Rattle.std.specs.Prelude.{◌≡◌, ◌≤◌, ◌<◌, ◌+◌, ◌&&◌, ℕ, true, nat_lt, IfOk, OnOk, IsFalse, IsTrue, Some, None, length};
+ghost use Rattle.std.specs.Prelude.{◌≡◌, ◌≤◌, ◌<◌, ◌+◌, ◌&&◌, ℕ, List, true, nat_lt, IfOk, OnOk, IsFalse, IsTrue, Some, None, length};
 ghost use Rattle.std.specs.Option.{option_map};
-ghost use Rattle.cp_logic.specs.Formulas.{IsFormula, has_empty};
+ghost use Rattle.cp_logic.specs.declared.named.Named.{Named};
+ghost use Rattle.cp_logic.specs.Formulas.{IsFormula, has_empty, occurrences};
 ghost use Rattle.cp_logic.specs.Entries.{is_look, numbered};
 ghost use Rattle.cp_logic.specs.Journals.{IsLegalJournal, folded, number_limit};
 ghost use Rattle.cp_logic.specs.Legality.{first, is_legal_in};
@@ -16,6 +18,7 @@ ghost use Rattle.cp_logic.specs.Pairs.{pairs_of};
 ghost use Rattle.cp_logic.specs.Views.{entry_of};
 ghost use Rattle.cp_book.specs.Answers.{answer_to, Posted};
 ghost use Rattle.cp_book.specs.Views.{current, current_pairs, stop_in, with_post};
+ghost use Rattle.cp_find.specs.Past.{IsPast};
 ghost use Rattle.cp_sweep.specs.Marks.{is_marked, IsFirstAround};
 ghost use Rattle.cp_sweep.specs.Cursor.{next_turn, left_at, turn_for};
 ghost use Rattle.cp_sweep.specs.Swept.{IsSwept, IsSweptAfter, IsUnspent};
@@ -26,6 +29,7 @@ use crate::marks::Marks;
 use crate::touch::touch;
 use cp_book::Book;
 use cp_eliminate::search;
+use cp_find::Reached;
 use cp_logic::{Entry, Formula, Journal, Rules, Stack, Stop};
 use cp_occ::Cells;
 use std::alloc::{AllocError, Global};
@@ -44,13 +48,14 @@ pub struct Swept {
     pub stopped: Option<Stop>,
 }
 
-// Where a sweep stands. The mark is the variable of the last search, and each variable at which something may be applicable is
-// touched.
+// Where a sweep stands. The mark is the variable of the last search, with what the searches there have passed, and each variable at
+// which something may be applicable is touched.
 #[derive(Drop)]
 struct Sweeping {
     book: Book,
     cells: Cells,
     mark: u32,
+    reached: Reached,
     touched: Marks,
 }
 
@@ -84,9 +89,11 @@ pub(crate) fn sweep_cells(alloc: Global, book: Book, cells: Cells) -> Result<Swe
         book,
         cells,
         mark: 1,
+        reached: Reached::start(),
         touched,
     };
     'searches: while let Some(var) = next_touched(&state) {
+        state.reached = reached_at(&state, var);
         state.mark = var;
         if let Some(stop) = turn(alloc, &mut state)? {
             return Ok(closed(state.book, Some(stop)));
@@ -118,6 +125,17 @@ fn next_touched(state: &Sweeping) -> Option<u32>
     Some(var as u32)
 }
 
+// What the searches have passed at the variable to which the mark moves: where it is another one, nothing.
+fn reached_at(state: &Sweeping, var: u32) -> Reached
+    ensures { (cs : List Named) → IsPast state.now.mark (occurrences cs state.now.mark) state.now.reached → IsPast var (occurrences cs var) result }
+{
+    if var == state.mark {
+        state.reached
+    } else {
+        Reached::start()
+    }
+}
+
 // What the book leaves.
 fn closed(book: Book, stopped: Option<Stop>) -> Swept
     ensures formula { result.formula.formula ≡ current book }
@@ -137,18 +155,23 @@ fn closed(book: Book, stopped: Option<Stop>) -> Swept
 
 // One turn: the stop, if there is one, or the search at the mark and the post of what it gives.
 fn turn(alloc: Global, state: &mut Sweeping) -> Result<Option<Stop>, AllocError>
-    requires { IsReady state.old }
+    requires ready { IsReady state.old }
+    requires past { IsPast state.old.mark (occurrences (current state.old.book).clauses state.old.mark) state.old.reached }
     ensures turn { IfOk result (λ stop. record { stop = stop; cursor = cursor_of state.new } ≡ next_turn state.old.book.first state.old.book.rules (cursor_of state.old)) }
     ensures first { OnOk result (state.new.book.first ≡ state.old.book.first) }
     ensures rules { OnOk result (state.new.book.rules ≡ state.old.book.rules) }
     ensures legal { OnOk result (IsLegalJournal state.new.book.first state.new.book.rules state.new.book.posts) }
     ensures cells { OnOk result (AreCellsOf (left_at state.new.book.first (cursor_of state.new)) state.new.cells.items) }
+    ensures past { OnOk result (IsPast state.new.mark (occurrences (current state.new.book).clauses state.new.mark) state.new.reached) }
 {
     state.book.is_legal();
     if let Some(stop) = state.book.stopped() {
         return Ok(Some(stop));
     }
-    match search_at(alloc, state)? {
+    let mut reached = state.reached;
+    let found = search_at(alloc, state, &mut reached)?;
+    state.reached = reached;
+    match found {
         None => {
             state.touched.remove(state.mark as usize);
             Ok(None)
@@ -157,19 +180,25 @@ fn turn(alloc: Global, state: &mut Sweeping) -> Result<Option<Stop>, AllocError>
     }
 }
 
-// The first entry at the mark.
-fn search_at(alloc: Global, state: &Sweeping) -> Result<Option<Entry>, AllocError>
+// The first entry at the mark, behind what the searches there have passed.
+fn search_at(
+    alloc: Global,
+    state: &Sweeping,
+    reached: &mut Reached,
+) -> Result<Option<Entry>, AllocError>
     requires cells { AreCellsOf (current state.now.book) state.now.cells.items }
     requires filled { IsFalse (has_empty (current state.now.book).clauses) }
     requires numbers { (current state.now.book).next ≤ number_limit }
     requires low { 1 ≤ state.now.mark }
     requires high { state.now.mark ≤ (current state.now.book).variables }
-    ensures { IfOk result (λ found. option_map entry_of found ≡ first (current state.now.book) state.now.book.rules state.now.mark) }
+    requires past { IsPast state.now.mark (occurrences (current state.now.book).clauses state.now.mark) reached.old }
+    ensures found { IfOk result (λ found. option_map entry_of found ≡ first (current state.now.book) state.now.book.rules state.now.mark) }
+    ensures past { IsPast state.now.mark (occurrences (current state.now.book).clauses state.now.mark) reached.new }
 {
     let Some(cell) = state.cells.get(state.mark as usize - 1) else {
         unreachable!()
     };
-    search(alloc, cell, state.book.rules(), state.book.next())
+    search(alloc, cell, state.book.rules(), state.book.next(), reached)
 }
 
 // Lets the cells follow the entry that the search at the mark gave, and posts it, unless its new clause has no number. All
@@ -180,11 +209,13 @@ fn post_found(alloc: Global, state: &mut Sweeping, entry: Entry) -> Result<Optio
     requires found { first (current state.old.book) state.old.book.rules state.old.mark ≡ Some (entry_of entry) }
     requires valid { IsFormula (current state.old.book) }
     requires room { (current state.old.book).variables < length state.old.touched }
+    requires past { IsPast state.old.mark (occurrences (current state.old.book).clauses state.old.mark) state.old.reached }
     ensures turn { IfOk result (λ stop. record { stop = stop; cursor = cursor_of state.new } ≡ turn_for (current state.old.book) (cursor_of state.old) (Some (entry_of entry))) }
     ensures first { OnOk result (state.new.book.first ≡ state.old.book.first) }
     ensures rules { OnOk result (state.new.book.rules ≡ state.old.book.rules) }
     ensures legal { OnOk result (IsLegalJournal state.new.book.first state.new.book.rules state.new.book.posts) }
     ensures cells { OnOk result (AreCellsOf (current state.new.book) state.new.cells.items) }
+    ensures past { OnOk result (IsPast state.new.mark (occurrences (current state.new.book).clauses state.new.mark) state.new.reached) }
 {
     if state.book.passes_numbers(&entry) {
         state.book.is_legal();
@@ -194,6 +225,7 @@ fn post_found(alloc: Global, state: &mut Sweeping, entry: Entry) -> Result<Optio
     let prepared = state.cells.prepare(alloc, &entry)?;
     state.cells.apply(&entry, prepared);
     touch(&mut state.touched, &entry);
+    state.reached.follow(&entry, state.mark);
     append(&mut state.book, entry);
     state.book.is_legal();
     Ok(None)

@@ -1,8 +1,11 @@
-use Rattle.std.proofs.Common.{length, sym, ◌∙◌, ap, subst, arith}
+use Rattle.std.proofs.Common.{List, length, sym, ◌∙◌, ap, subst, arith}
 use Rattle.cp_logic.specs.Legality.{is_legal, is_legal_in}
 use Rattle.cp_logic.specs.Entries.{numbered}
 use Rattle.cp_logic.specs.Journals.{folded}
 use Rattle.cp_logic.specs.Views.{entry_of}
+use Rattle.cp_logic.specs.Formulas.{occurrences}
+use Rattle.cp_logic.specs.declared.named.Named.{Named}
+use Rattle.cp_find.specs.Past.{IsPast}
 use Rattle.cp_book.specs.Answers.{answer_to, Posted}
 use Rattle.cp_book.specs.Views.{BookView, current, with_post}
 use Rattle.cp_occ.specs.Changes.{AreCellsOf}
@@ -11,7 +14,7 @@ use Rattle.cp_sweep.proofs.Entries.{first-legal, first-legal_in, first-no_look, 
 use Rattle.cp_sweep.specs.Marks.{with_marks}
 use Rattle.cp_sweep.specs.Cursor.{touched_by}
 use Rattle.cp_sweep.proofs.Touching.{touched-within}
-use Rattle.cp_sweep.proofs.Posting.{takes, posted-cells, posted-turn, turn_at}
+use Rattle.cp_sweep.proofs.Posting.{takes, posted-cells, posted-occurrences, posted-turn, turn_at}
 use Rattle.cp_sweep.proofs.turns.post_found.Goals as goal
 
 pub prepare-requires : goal.prepare-requires
@@ -77,3 +80,11 @@ touch-requires c =
     let legal = first-legal f b.rules c.args.state.now.mark e c.requires.found in
     let named = first-numbered f b.rules c.args.state.now.mark e c.requires.found in
     λ x i. let r = touched-within (folded b.first b.posts) b.rules e c.requires.valid legal named x i in omega (arith, r.1, c.requires.room)
+
+pub returns-clause-past : goal.returns-clause-past
+returns-clause-past c =
+    let b = c.args.state.now.book in let f = current b in let e = entry_of c.args.entry in let x = c.args.state.now.mark in
+    let book_is = c.append.ensures ∙ ap (λ (d : BookView). with_post d 0 0 e) c.prepare.ensures.same in
+    let clauses_are = posted-occurrences b e (first-numbered f b.rules x e c.requires.found) b.rules x c.requires.valid (first-legal f b.rules x e c.requires.found) in
+    subst (λ (d : BookView). IsPast x (occurrences (current d).clauses x) c.follow.new.self) (sym book_is)
+    (subst (λ (cs : List Named). IsPast x cs c.follow.new.self) (sym clauses_are) (c.follow.ensures (occurrences f.clauses x) f.next c.requires.past))

@@ -2,11 +2,12 @@ use Rattle.std.proofs.Common.{◌≡◌, ℕ, ◌+◌, ◌<◌, Some, None, refl
 use Rattle.std.specs.Prelude.{nat_lt}
 use Rattle.std.proofs.lemmas.Bool.{and_parts, and_from, ltb-true, lt-ltb}
 use Rattle.cp_logic.specs.declared.settings.Rules.{Rules}
-use Rattle.cp_logic.specs.Formulas.{Formula}
+use Rattle.cp_logic.specs.Formulas.{Formula, occurrences}
 use Rattle.cp_logic.specs.Journals.{folded, IsLegalJournal}
 use Rattle.cp_logic.proofs.JournalRuns.{journal-formula}
 use Rattle.cp_book.specs.Views.{current}
 use Rattle.cp_occ.specs.Changes.{AreCellsOf}
+use Rattle.cp_find.specs.Past.{IsPast}
 use Rattle.cp_sweep.specs.Marks.{is_marked, IsFirstAround}
 use Rattle.cp_sweep.specs.Cursor.{left_at, moved}
 use Rattle.cp_sweep.specs.Sweeping.{cursor_of}
@@ -30,6 +31,7 @@ searches-init c =
       first = refl;
       rules = refl;
       cells = c.requires.cells;
+      past = c.start.ensures 1 (occurrences (left_at f (record { posts = b.posts; mark = 1; touched = marks })).clauses 1);
     }
 
 pub next_touched-requires : goal.next_touched-requires
@@ -38,6 +40,12 @@ next_touched-requires c = λ x m.
     let same : (current b).variables ≡ f.variables = (journal-formula f b.rules b.posts c.is_legal.ensures.first c.is_legal.ensures.journal).1 in
     let many : c.vars.result ≡ f.variables = c.vars.ensures.value ∙ ap (λ (g : Formula). g.variables) c.clauses.ensures ∙ same in
     omega (arith, (c.searches.invariant.under_way.within x m).1, c.vars.ensures.most)
+
+pub turn-requires-clause-past : goal.turn-requires-clause-past
+turn-requires-clause-past c =
+    let s = c.searches.state in let x = c.in-Some.var in
+    subst (λ (g : Formula). IsPast x (occurrences (left_at g (cursor_of s)).clauses x) c.reached_at-state.result) (sym c.searches.invariant.first)
+    (c.reached_at-state.ensures (left_at c.args.book.first (cursor_of s)).clauses c.searches.invariant.past)
 
 pub returns-in-Some-2-clause-swept : goal.returns-in-Some-2-clause-swept
 returns-in-Some-2-clause-swept c =
@@ -80,6 +88,7 @@ searches-preserved c =
       first = first_is;
       rules = rules_are;
       cells = subst (λ (g : Formula). AreCellsOf (left_at g d) c.turn.new.state.cells.items) first_is c.in_ok-stop.ensures.cells;
+      past = subst (λ (g : Formula). IsPast d.mark (occurrences (left_at g d).clauses d.mark) c.turn.new.state.reached) first_is c.in_ok-stop.ensures.past;
     }
 
 pub returns-clause-swept : goal.returns-clause-swept

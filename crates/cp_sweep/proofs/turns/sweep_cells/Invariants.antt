@@ -1,5 +1,7 @@
 use Rattle.std.proofs.Common.{◌≡◌}
+use Rattle.cp_logic.specs.Formulas.{occurrences}
 use Rattle.cp_occ.specs.Changes.{AreCellsOf}
+use Rattle.cp_find.specs.Past.{IsPast}
 use Rattle.cp_sweep.specs.Cursor.{left_at}
 use Rattle.cp_sweep.specs.Sweeping.{cursor_of}
 use Rattle.cp_sweep.proofs.UnderWay.{IsUnderWay, searches_left}
@@ -11,6 +13,7 @@ invariant-searches l = record {
   first : l.state.book.first ≡ l.fn.book.first;
   rules : l.state.book.rules ≡ l.fn.book.rules;
   cells : AreCellsOf (left_at l.fn.book.first (cursor_of l.state)) l.state.cells.items;
+  past : IsPast l.state.mark (occurrences (left_at l.fn.book.first (cursor_of l.state)).clauses l.state.mark) l.state.reached;
 }
 
 abbrev pub decreases-searches : goal.decreases-searches
