@@ -17,6 +17,7 @@ use crate::answer::AtAnswer;
 use crate::gate::{Gate, GateEvent};
 use crate::lists::Positions;
 use cp_eliminate::search;
+use cp_find::Reached;
 use cp_hood::{CommitAnswer, Hood, HoodAnswer, commit, release, try_hood};
 use cp_logic::{Entry, Opts, Rules, Stop};
 use cp_yard::{Seat, Yard};
@@ -122,7 +123,8 @@ fn visit_under<G: Gate>(
     answer
 }
 
-// Posts what the search at the centre gives, until it gives nothing or an entry is refused.
+// Posts what the search at the centre gives, until it gives nothing or an entry is refused. Each search goes on behind what the last
+// one found.
 fn commit_all(
     alloc: Global,
     yard: &Yard,
@@ -140,7 +142,9 @@ fn commit_all(
     ensures holds { HoldsJust seat.new.view hood.new.cells }
 {
     let mut commits = Positions::new(alloc);
-    'commits: while let Some(entry) = search(alloc, hood.centre(), rules, 1)? {
+    let mut reached = Reached::start();
+    'commits: while let Some(entry) = search(alloc, hood.centre(), rules, 1, &mut reached)? {
+        reached.follow(&entry, hood.centre().var());
         if let Err(answer) = commit_listed(alloc, yard, seat, hood, entry, round, &mut commits) {
             return refused(answer, commits);
         }

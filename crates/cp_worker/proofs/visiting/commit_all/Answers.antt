@@ -1,14 +1,18 @@
-use Rattle.std.proofs.Common.{◌≡◌, ◌∙◌, ◌++◌, Some, None, refl, sym, ap}
+use Rattle.std.proofs.Common.{◌≡◌, ◌∙◌, ◌++◌, List, Some, None, refl, sym, ap, subst}
 use Rattle.std.specs.Option.{option_map}
 use Rattle.std.proofs.lemmas.Result.{IfOk-weaker}
+use Rattle.cp_logic.specs.declared.named.Named.{Named}
+use Rattle.cp_logic.specs.Entries.{numbered}
 use Rattle.cp_logic.specs.Legality.{first_in}
+use Rattle.cp_logic.specs.Locality.{after}
 use Rattle.cp_logic.specs.Views.{entry_of}
 use Rattle.cp_yard.specs.Views.{Base}
+use Rattle.cp_find.specs.Past.{IsPast}
 use Rattle.cp_hood.specs.Hoods.{centre_clauses}
 use Rattle.cp_hood.specs.Commits.{left_by}
 use Rattle.cp_worker.specs.Visits.{AreCommits, commits_of}
 use Rattle.cp_worker.specs.Posting.{IsCauseOf}
-use Rattle.cp_worker.proofs.Centres.{found-at, legal-found, centre-smaller}
+use Rattle.cp_worker.proofs.Centres.{found-at, legal-found, centre-after, centre-smaller}
 use Rattle.cp_worker.proofs.Commits.{begins, goes_on, settles, refuses, refused-goes}
 use Rattle.cp_worker.proofs.visiting.commit_all.Goals as goal
 
@@ -18,12 +22,18 @@ commits-init c = record {
   holds = c.requires.holds;
   centre = refl;
   going = begins c.args.seat.now.view c.args.hood.now.centre c.args.round (centre_clauses c.args.hood.now) c.new-commits.result.items c.new-commits.ensures;
+  past = c.start-reached.ensures c.args.hood.now.centre (centre_clauses c.args.hood.now);
 }
+
+pub search-requires-clause-past : goal.search-requires-clause-past
+search-requires-clause-past c =
+    subst (λ x. IsPast x c.centre.result.now.clauses c.commits.reached) (sym c.centre.ensures.variable)
+    (subst (λ (cs : List Named). IsPast c.commits.hood.centre cs c.commits.reached) (sym c.centre.ensures.clauses) c.commits.invariant.past)
 
 pub commit_listed-requires-clause-legal : goal.commit_listed-requires-clause-legal
 commit_listed-requires-clause-legal c =
     legal-found c.args.yard.now.base.rules c.commits.hood (entry_of c.in-Some.entry)
-    (found-at c.commits.hood c.centre.result.now c.args.rules.now c.args.yard.now.base.rules c.in_ok-entry.field-0 c.centre.ensures.variable c.centre.ensures.clauses c.requires.rules c.in_ok-entry.ensures
+    (found-at c.commits.hood c.centre.result.now c.args.rules.now c.args.yard.now.base.rules c.in_ok-entry.field-0 c.centre.ensures.variable c.centre.ensures.clauses c.requires.rules c.in_ok-entry.ensures.found
     ∙ ap (option_map entry_of) c.in-Some.is)
 
 pub commits-preserved : goal.commits-preserved
@@ -35,16 +45,28 @@ commits-preserved c =
       centre = k.3.hood.centre ∙ i.centre;
       going = goes_on c.args.seat.now.view c.commits.seat.view c.commit_listed.new.seat.view c.args.hood.now.centre c.args.round (centre_clauses c.args.hood.now) c.args.yard.now.base.rules
           c.commits.hood c.commit_listed.new.hood (entry_of c.in-Some.entry) c.commits.commits.items c.commit_listed.new.commits.items k.0 k.1 i.centre
-          (found-at c.commits.hood c.centre.result.now c.args.rules.now c.args.yard.now.base.rules c.in_ok-entry.field-0 c.centre.ensures.variable c.centre.ensures.clauses c.requires.rules c.in_ok-entry.ensures
+          (found-at c.commits.hood c.centre.result.now c.args.rules.now c.args.yard.now.base.rules c.in_ok-entry.field-0 c.centre.ensures.variable c.centre.ensures.clauses c.requires.rules c.in_ok-entry.ensures.found
           ∙ ap (option_map entry_of) c.in-Some.is)
           i.going k.2 k.3;
+      past =
+          let e = entry_of c.in-Some.entry in let n = (left_by c.commits.seat.view.base k.3.before).next in
+          let found = found-at c.commits.hood c.centre.result.now c.args.rules.now c.args.yard.now.base.rules c.in_ok-entry.field-0 c.centre.ensures.variable c.centre.ensures.clauses c.requires.rules c.in_ok-entry.ensures.found
+          ∙ ap (option_map entry_of) c.in-Some.is in
+          let x : c.var.result ≡ c.commits.hood.centre = c.var.ensures.value ∙ c.centre-in-Some.ensures.variable in
+          let before = subst (λ (cs : List Named). IsPast c.commits.hood.centre cs c.search.new.reached) c.centre.ensures.clauses
+          (subst (λ z. IsPast z c.centre.result.now.clauses c.search.new.reached) c.centre.ensures.variable c.in_ok-entry.ensures.past) in
+          let follows = subst (λ z. IsPast z (centre_clauses c.commits.hood) c.search.new.reached → IsPast z (after (centre_clauses c.commits.hood) z (numbered n e)) c.follow.new.self) x
+          (c.follow.ensures (centre_clauses c.commits.hood) n) before in
+          subst (λ z. IsPast z (centre_clauses c.commit_listed.new.hood) c.follow.new.self) (sym k.3.hood.centre)
+          (subst (λ (cs : List Named). IsPast c.commits.hood.centre cs c.follow.new.self)
+          (sym (centre-after c.args.yard.now.base.rules n e c.commits.hood c.commit_listed.new.hood found k.3.hood)) follows);
     }
 
 pub commits-smaller : goal.commits-smaller
 commits-smaller c =
     let k = c.in_default-commit_listed.ensures.post in
     centre-smaller c.args.yard.now.base.rules (left_by c.commits.seat.view.base k.3.before).next (entry_of c.in-Some.entry) c.commits.hood c.commit_listed.new.hood
-    (found-at c.commits.hood c.centre.result.now c.args.rules.now c.args.yard.now.base.rules c.in_ok-entry.field-0 c.centre.ensures.variable c.centre.ensures.clauses c.requires.rules c.in_ok-entry.ensures
+    (found-at c.commits.hood c.centre.result.now c.args.rules.now c.args.yard.now.base.rules c.in_ok-entry.field-0 c.centre.ensures.variable c.centre.ensures.clauses c.requires.rules c.in_ok-entry.ensures.found
     ∙ ap (option_map entry_of) c.in-Some.is)
     k.3.hood
 
@@ -54,7 +76,7 @@ returns-in-Err-clause-visit c =
     let v = c.args.seat.now.view in let x = c.args.hood.now.centre in let cs = centre_clauses c.args.hood.now in
     let found : first_in (centre_clauses c.commits.hood) v.base.rules 1 x ≡ Some e = ap (λ z. first_in (centre_clauses c.commits.hood) v.base.rules 1 z) (sym i.centre)
     ∙ found-at c.commits.hood c.centre.result.now c.args.rules.now v.base.rules c.in_ok-entry.field-0 c.centre.ensures.variable c.centre.ensures.clauses
-    (c.requires.rules ∙ sym (ap (λ (f : Base). f.rules) c.requires.base)) c.in_ok-entry.ensures
+    (c.requires.rules ∙ sym (ap (λ (f : Base). f.rules) c.requires.base)) c.in_ok-entry.ensures.found
     ∙ ap (option_map entry_of) c.in-Some.is in (
       i.going.noted ++ k.0,
       i.going.posted,
@@ -70,7 +92,7 @@ returns-clause-visit c =
     let i = c.commits.invariant in let v = c.args.seat.now.view in
     let none : first_in (centre_clauses c.commits.hood) v.base.rules 1 c.commits.hood.centre ≡ None =
     found-at c.commits.hood c.centre.result.now c.args.rules.now v.base.rules c.in_ok-entry.field-0 c.centre.ensures.variable c.centre.ensures.clauses
-    (c.requires.rules ∙ sym (ap (λ (f : Base). f.rules) c.requires.base)) c.in_ok-entry.ensures ∙ ap (option_map entry_of) c.in_default.is in (
+    (c.requires.rules ∙ sym (ap (λ (f : Base). f.rules) c.requires.base)) c.in_ok-entry.ensures.found ∙ ap (option_map entry_of) c.in_default.is in (
       i.going.noted,
       i.going.posted,
       i.going.goes,
