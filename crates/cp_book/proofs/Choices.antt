@@ -1,7 +1,7 @@
 -- The answer to an entry that passed the first tests, and why a book is stopped.
 use Rattle.std.proofs.Common.{◌≡◌, ℕ, Bool, false, cond, length, Some, None, Result, Ok, Err, is_err, refl, sym, ◌∙◌, ap}
 use Rattle.std.specs.Prelude.{is_some}
-use Rattle.cp_logic.specs.declared.settings.Stop.TheVariants.{Spent as StopSpent, Refuted as StopRefuted}
+use Rattle.cp_logic.specs.declared.stop.Stop.TheVariants.{Spent as StopSpent, Refuted as StopRefuted}
 use Rattle.cp_logic.specs.Entries.{Entry, numbered}
 use Rattle.cp_logic.specs.Legality.{is_legal}
 use Rattle.cp_logic.specs.Journals.{commits}

@@ -1,8 +1,8 @@
 -- A reader of an input that comes in pieces.
 use Rattle.std.specs.Prelude.{◌≡◌, ℕ, ◌+◌, List, ◌++◌, Bool, true, false, take, Result, Ok, Err}
 use Rattle.cp_io.specs.declared.limits.Limits.{Limits}
-use Rattle.cp_io.specs.declared.limits.Feed.{Feed}
-use Rattle.cp_io.specs.declared.limits.Feed.TheVariants.{More, Ended}
+use Rattle.cp_io.specs.declared.feed.Feed.{Feed}
+use Rattle.cp_io.specs.declared.feed.Feed.TheVariants.{More, Ended}
 use Rattle.cp_logic.specs.Slots.{Held}
 use Rattle.cp_dimacs.specs.declared.refusal.CnfRefusal.{CnfRefusal}
 use Rattle.cp_dimacs.specs.declared.refusal.CnfRefusal.TheVariants.{NoMemory}

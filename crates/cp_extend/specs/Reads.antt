@@ -1,7 +1,7 @@
 -- What a reader of models answers, against what the text reads as.
 use Rattle.std.specs.Prelude.{◌≡◌, ℕ, ◌+◌, List, ◌++◌, length, take, Bool, true, false, Result, Ok, Err}
-use Rattle.cp_io.specs.declared.limits.Feed.{Feed}
-use Rattle.cp_io.specs.declared.limits.Feed.TheVariants.{More, Ended}
+use Rattle.cp_io.specs.declared.feed.Feed.{Feed}
+use Rattle.cp_io.specs.declared.feed.Feed.TheVariants.{More, Ended}
 use Rattle.cp_io.specs.declared.limits.Limits.{Limits}
 use Rattle.cp_extend.specs.declared.refusal.ModelRefusal.{ModelRefusal}
 use Rattle.cp_extend.specs.declared.refusal.ModelRefusal.TheVariants.{NoMemory}

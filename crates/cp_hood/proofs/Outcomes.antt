@@ -2,7 +2,7 @@
 use Rattle.std.proofs.Common.{◌≡◌, ℕ, ◌+◌, ◌<◌, Bool, true, false, cond, List, [], ◌∷◌, ◌++◌, length, Some, None, Result, Ok, Err, OnOk, is_err, refl, sym, ◌∙◌, ap, subst, inl}
 use Rattle.std.specs.Prelude.{is_some, nat_lt}
 use Rattle.cp_logic.specs.declared.settings.Rules.{Rules}
-use Rattle.cp_logic.specs.declared.settings.Stop.TheVariants.{Refuted as StopRefuted, Spent as StopSpent}
+use Rattle.cp_logic.specs.declared.stop.Stop.TheVariants.{Refuted as StopRefuted, Spent as StopSpent}
 use Rattle.cp_logic.specs.Formulas.{has_empty}
 use Rattle.cp_logic.specs.Entries.{Entry, numbered}
 use Rattle.cp_logic.specs.Journals.{Post, commits, number_limit}

@@ -7,7 +7,7 @@ use Rattle.cp_yard.specs.Rule.{IsAlone, Account}
 use Rattle.cp_yard.specs.Sitting.{Sitting, YardView}
 use Rattle.cp_yard.proofs.Lists.{times_in}
 use Rattle.cp_logic.specs.Journals.{Post, posts_of}
-use Rattle.cp_logic.specs.declared.settings.Stop.{Stop}
+use Rattle.cp_logic.specs.declared.stop.Stop.{Stop}
 use Rattle.cp_hood.specs.Hoods.{IsIdle}
 use Rattle.cp_claim.specs.Views.{Counter}
 use Rattle.cp_claim.specs.Views as claims

@@ -1,7 +1,7 @@
 -- Rounds: shifts of all workers, round by round.
 use Rattle.std.specs.Prelude.{◌≡◌, ◌≢◌, ◌⊎◌, ℕ, ◌+◌, ◌*◌, ◌<◌, ◌≤◌, ◌==◌, Option, Some, None, List, [], ◌++◌, take, drop, length, slice_get}
 use Rattle.std.specs.List.{count_by, flat_map, All, Contains}
-use Rattle.cp_logic.specs.declared.settings.Stop.{Stop}
+use Rattle.cp_logic.specs.declared.stop.Stop.{Stop}
 use Rattle.cp_logic.specs.Journals.{Post, posts_in_round}
 use Rattle.cp_yard.specs.Views.{Base, Note, Share, SeatView}
 use Rattle.cp_hood.specs.Hoods.{IsIdle}

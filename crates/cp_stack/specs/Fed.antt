@@ -1,8 +1,8 @@
 -- A reader that is fed the bytes of a text in pieces.
 use Rattle.std.specs.Prelude.{◌≡◌, ℕ, ◌+◌, List, [], ◌++◌, take, Option, Some, None, Result, Ok, Err}
 use Rattle.cp_io.specs.declared.limits.Limits.{Limits}
-use Rattle.cp_io.specs.declared.limits.Feed.{Feed}
-use Rattle.cp_io.specs.declared.limits.Feed.TheVariants.{More}
+use Rattle.cp_io.specs.declared.feed.Feed.{Feed}
+use Rattle.cp_io.specs.declared.feed.Feed.TheVariants.{More}
 use Rattle.cp_logic.specs.declared.pairs.Stack.{Stack as HeldStack}
 use Rattle.cp_stack.specs.declared.refusal.StackRefusal.{StackRefusal}
 use Rattle.cp_stack.specs.declared.refusal.StackRefusal.TheVariants.{NoMemory}

@@ -1,8 +1,8 @@
 -- The summary of a run: thirteen lines, each with a name and a value.
 use Rattle.std.specs.Prelude.{ℕ, ◌+◌, List, [], ◌∷◌, ◌++◌, length, codes, decimal, Bool, true, false, Option, Some, None, if◌then◌else◌}
 use Rattle.cp_logic.specs.declared.named.Named.{Named}
-use Rattle.cp_logic.specs.declared.settings.Stop.{Stop}
-use Rattle.cp_logic.specs.declared.settings.Stop.TheVariants.{Spent, Numbers, Refuted}
+use Rattle.cp_logic.specs.declared.stop.Stop.{Stop}
+use Rattle.cp_logic.specs.declared.stop.Stop.TheVariants.{Spent, Numbers, Refuted}
 use Rattle.cp_logic.specs.Formulas.{Formula, has_empty}
 use Rattle.cp_logic.specs.Entries.{Entry, Taut, Subsume, Strengthen, Block, Eliminate}
 use Rattle.cp_logic.specs.Journals.{Post}

@@ -3,7 +3,7 @@ use Rattle.std.proofs.Common.{◌≡◌, ℕ, ◌+◌, Bool, true, false, cond, 
 use Rattle.std.specs.Prelude.{is_some, nat_le}
 use Rattle.std.proofs.lemmas.Bool.Decides.{nat_tests}
 use Rattle.cp_logic.specs.declared.settings.Rules.{Rules}
-use Rattle.cp_logic.specs.declared.settings.Stop.TheVariants.{Refuted as StopRefuted, Spent as StopSpent}
+use Rattle.cp_logic.specs.declared.stop.Stop.TheVariants.{Refuted as StopRefuted, Spent as StopSpent}
 use Rattle.cp_logic.specs.Formulas.{Formula, IsFormula, has_empty, occurrences}
 use Rattle.cp_logic.specs.Rules.{Rule, Add, Drop, Weaken, State, state_after, applied, added, removed}
 use Rattle.cp_logic.specs.Entries.{Entry, expand, new_clauses, numbered}

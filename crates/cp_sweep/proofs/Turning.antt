@@ -3,8 +3,8 @@ use Rattle.std.proofs.Common.{◌≡◌, ◌<◌, Bool, true, false, cond, not, 
 use Rattle.std.specs.List.{list_any, range_with_len}
 use Rattle.std.proofs.lemmas.Bool.{and_parts, eqb-true, eq-eqb, false≢true}
 use Rattle.cp_logic.specs.declared.settings.Rules.{Rules}
-use Rattle.cp_logic.specs.declared.settings.Stop.{Stop}
-use Rattle.cp_logic.specs.declared.settings.Stop.TheVariants.{Refuted, Spent, Numbers}
+use Rattle.cp_logic.specs.declared.stop.Stop.{Stop}
+use Rattle.cp_logic.specs.declared.stop.Stop.TheVariants.{Refuted, Spent, Numbers}
 use Rattle.cp_logic.specs.Formulas.{Formula, IsFormula, has_empty}
 use Rattle.cp_logic.specs.Journals.{Post, folded, commits}
 use Rattle.cp_logic.specs.Sweeps.{is_applicable, is_spent, IsSweep, enough}

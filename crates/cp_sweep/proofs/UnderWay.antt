@@ -7,8 +7,8 @@ use Rattle.std.proofs.lemmas.List.{append-nil, length-set}
 use Rattle.std.proofs.lemmas.List.Sums.{sum_by-append}
 use Rattle.std.proofs.Math.Nat.{suc-mul}
 use Rattle.cp_logic.specs.declared.settings.Rules.{Rules}
-use Rattle.cp_logic.specs.declared.settings.Stop.{Stop}
-use Rattle.cp_logic.specs.declared.settings.Stop.TheVariants.{Refuted, Spent, Numbers}
+use Rattle.cp_logic.specs.declared.stop.Stop.{Stop}
+use Rattle.cp_logic.specs.declared.stop.Stop.TheVariants.{Refuted, Spent, Numbers}
 use Rattle.cp_logic.specs.Formulas.{Formula, IsFormula, has_empty}
 use Rattle.cp_logic.specs.Rules.{State}
 use Rattle.cp_logic.specs.Entries.{Entry, new_clauses, is_look, numbered}

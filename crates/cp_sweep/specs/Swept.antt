@@ -1,8 +1,8 @@
 -- What a sweep leaves.
 use Rattle.std.specs.Prelude.{◌≡◌, ◌≤◌, ◌⊎◌, Option, Some, List, [], ◌++◌, length}
 use Rattle.cp_logic.specs.declared.settings.Rules.{Rules}
-use Rattle.cp_logic.specs.declared.settings.Stop.{Stop}
-use Rattle.cp_logic.specs.declared.settings.Stop.TheVariants.{Spent}
+use Rattle.cp_logic.specs.declared.stop.Stop.{Stop}
+use Rattle.cp_logic.specs.declared.stop.Stop.TheVariants.{Spent}
 use Rattle.cp_logic.specs.Formulas.{Formula}
 use Rattle.cp_logic.specs.Journals.{Post, IsLegalJournal, folded}
 use Rattle.cp_logic.specs.Sweeps.{IsSweep, stop_of, enough}

@@ -9,7 +9,7 @@ use Rattle.cp_io.specs.declared.role.Way.TheVariants.{Out}
 use Rattle.cp_io.specs.Port.{Port, Ports, AtRole, Writes, Rose}
 use Rattle.cp_io.proofs.RoleCases.{kept}
 use Rattle.cp_logic.specs.declared.settings.Form.{Form}
-use Rattle.cp_logic.specs.declared.settings.Stop.{Stop}
+use Rattle.cp_logic.specs.declared.stop.Stop.{Stop}
 use Rattle.cp_logic.specs.Assignments.{Pair}
 use Rattle.cp_logic.specs.Formulas.{Formula}
 use Rattle.cp_logic.specs.Journals.{Post, folded}

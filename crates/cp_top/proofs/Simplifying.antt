@@ -4,8 +4,8 @@ use Rattle.std.specs.List.{Contains, list_any, range_with_len}
 use Rattle.std.proofs.lemmas.Bool.{and_parts}
 use Rattle.std.proofs.lemmas.List.FromFn.{length-range_with_len, get_or-range_with_len}
 use Rattle.cp_logic.specs.declared.settings.Rules.{Rules}
-use Rattle.cp_logic.specs.declared.settings.Stop.{Stop}
-use Rattle.cp_logic.specs.declared.settings.Stop.TheVariants.{Spent, Numbers, Refuted}
+use Rattle.cp_logic.specs.declared.stop.Stop.{Stop}
+use Rattle.cp_logic.specs.declared.stop.Stop.TheVariants.{Spent, Numbers, Refuted}
 use Rattle.cp_logic.specs.Formulas.{Formula, IsFormula, has_empty}
 use Rattle.cp_logic.specs.Entries.{Entry, Taut, Subsume, Strengthen, Block, Eliminate, Look, is_at}
 use Rattle.cp_logic.specs.Legality.{applies, first, first_in, is_legal, is_legal_in}

@@ -3,7 +3,7 @@ use Rattle.std.specs.Prelude.{ℕ, List, [], ◌∷◌, Bool, Option, length}
 use Rattle.cp_io.specs.declared.role.Role.TheVariants.{Cnf, Reduced, Stack, Proof, Model, Full, Summary}
 use Rattle.cp_io.specs.declared.role.Way.TheVariants.{In, Out}
 use Rattle.cp_logic.specs.declared.settings.Form.{Form}
-use Rattle.cp_logic.specs.declared.settings.Stop.{Stop}
+use Rattle.cp_logic.specs.declared.stop.Stop.{Stop}
 use Rattle.cp_logic.specs.Assignments.{Pair}
 use Rattle.cp_logic.specs.Formulas.{Formula}
 use Rattle.cp_logic.specs.Journals.{Post}

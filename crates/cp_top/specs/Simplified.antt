@@ -1,7 +1,7 @@
 -- What it means that a journal simplifies a formula: it is one legal run, which a sweep ends, models go back, and nothing is left to do.
 use Rattle.std.specs.Prelude.{◌≡◌, ◌≤◌, ◌↔◌, ℕ, Bool, Option, None, List, ◌++◌, length, IsTrue, IsFalse}
 use Rattle.cp_logic.specs.declared.settings.Rules.{Rules}
-use Rattle.cp_logic.specs.declared.settings.Stop.{Stop}
+use Rattle.cp_logic.specs.declared.stop.Stop.{Stop}
 use Rattle.cp_logic.specs.Assignments.{satisfies_all, completed, IsSatisfiable}
 use Rattle.cp_logic.specs.Formulas.{Formula, clauses_of, has_empty}
 use Rattle.cp_logic.specs.Rules.{IsRun}

@@ -6,7 +6,7 @@ use Rattle.std.proofs.lemmas.Grind.{flat_map-append}
 use Rattle.std.proofs.lemmas.Bool.{false≢true}
 use Rattle.std.proofs.lemmas.List.{map-append}
 use Rattle.std.proofs.lemmas.List.Elements.{All-nil, All-cons, All-append, All-weaker, All-same, Contains-append_left, Contains-append_right, Contains-push, Contains-push_cases}
-use Rattle.cp_logic.specs.declared.settings.Stop.{Stop}
+use Rattle.cp_logic.specs.declared.stop.Stop.{Stop}
 use Rattle.cp_logic.specs.Entries.{Entry}
 use Rattle.cp_logic.specs.Journals.{Post}
 use Rattle.cp_logic.proofs.Members.{none_in}

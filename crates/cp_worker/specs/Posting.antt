@@ -2,7 +2,7 @@
 use Rattle.std.specs.Prelude.{◌≡◌, ℕ, ◌+◌, ◌<◌, Some, Result, Err, List, [], ◌∷◌, ◌++◌, length}
 use Rattle.std.specs.List.{All}
 use Rattle.cp_logic.specs.declared.named.Named.{Named}
-use Rattle.cp_logic.specs.declared.settings.Stop.TheVariants.{Spent as ForBudget, Numbers as ForNumbers, Refuted as ForRefutation}
+use Rattle.cp_logic.specs.declared.stop.Stop.TheVariants.{Spent as ForBudget, Numbers as ForNumbers, Refuted as ForRefutation}
 use Rattle.cp_logic.specs.Entries.{Entry}
 use Rattle.cp_logic.specs.Legality.{first_in}
 use Rattle.cp_logic.specs.Journals.{Post}

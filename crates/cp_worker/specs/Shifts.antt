@@ -2,7 +2,7 @@
 use Rattle.std.specs.Prelude.{◌≡◌, ◌⊎◌, ℕ, ◌+◌, ◌<◌, Option, Some, None, List, [], ◌∷◌, map, length, ◌++◌}
 use Rattle.std.specs.List.{flat_map, All, Contains}
 use Rattle.cp_logic.specs.declared.named.Named.{Named}
-use Rattle.cp_logic.specs.declared.settings.Stop.{Stop}
+use Rattle.cp_logic.specs.declared.stop.Stop.{Stop}
 use Rattle.cp_logic.specs.Formulas.{neighbourhood}
 use Rattle.cp_logic.specs.Entries.{Entry}
 use Rattle.cp_logic.specs.Legality.{first_in}

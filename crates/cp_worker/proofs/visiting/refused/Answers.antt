@@ -1,6 +1,6 @@
 use Rattle.std.proofs.Common.{refl, sym, subst}
-use Rattle.cp_logic.specs.declared.settings.Stop.{Stop}
-use Rattle.cp_logic.specs.declared.settings.Stop.TheVariants.{Spent, Numbers, Refuted}
+use Rattle.cp_logic.specs.declared.stop.Stop.{Stop}
+use Rattle.cp_logic.specs.declared.stop.Stop.TheVariants.{Spent, Numbers, Refuted}
 use Rattle.cp_hood.specs.declared.answers.CommitAnswer.{CommitAnswer}
 use Rattle.cp_worker.specs.declared.answer.AtAnswer.TheVariants.{TurnHeld, Stopped}
 use Rattle.cp_worker.specs.Posting.{IsCauseOf}
