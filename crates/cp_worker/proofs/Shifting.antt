@@ -22,7 +22,7 @@ use Rattle.cp_worker.specs.declared.lists.WideAt.{WideAt}
 use Rattle.cp_worker.specs.declared.lists.WorkerShift.{WorkerShift}
 use Rattle.cp_worker.specs.Visits.{IsVisit, IsPostOf, positions, commits_of}
 use Rattle.cp_worker.specs.Listing.{IsListing, busy_of, late_of, wide_of, stopped_after}
-use Rattle.cp_worker.specs.Shifts.{IsShift, Gives, IsSettled, IsBusy, IsLate, IsWide, IsAccounted, IsLast, IsStopped}
+use Rattle.cp_worker.specs.Shifts.{IsShift, Visited, Gives, IsSettled, IsBusy, IsLate, IsWide, IsAccounted, IsLast, IsStopped}
 use Rattle.cp_worker.proofs.Commits.{EndWith-later, IsSeen, seen, commits_are, posts_are}
 
 in_end : (n : Note) (before noted : List Note) → EndWith n noted → Contains (before ++ noted) n
@@ -108,7 +108,7 @@ module _ (f : Base) (number x in_round limit : ℕ) (noted more : List Note) (po
       )))
 
 -- what one visit more lists
-all_more : {A : Type 0} (f : ℕ × AtAnswer → List A) (visits : List (ℕ × AtAnswer)) (v : ℕ × AtAnswer) → flat_map f visits ++ f v ≡ flat_map f (visits ++ v ∷ [])
+all_more : {A : Type 0} (f : Visited → List A) (visits : List Visited) (v : Visited) → flat_map f visits ++ f v ≡ flat_map f (visits ++ v ∷ [])
 all_more f visits v = ap (λ xs. flat_map f visits ++ xs) (sym (append-nil (f v))) ∙ sym (flat_map-append f visits (v ∷ []))
 
 -- nothing was drawn yet
@@ -119,7 +119,10 @@ starts-shift f number in_round limit s w r t c b l d n = record {
   round = r;
   taken = t;
   visits = [];
+  each = All-nil (λ (v : Visited). IsVisit f number v.at in_round limit v.noted v.posted v.answer);
   visited = t;
+  notes = refl;
+  posted_are = refl;
   busy_are = b;
   late_are = l;
   wide_are = d;
@@ -136,15 +139,22 @@ starts-shift f number in_round limit s w r t c b l d n = record {
 pub visits-more : (f : Base) (number in_round limit : ℕ) (noted more : List Note) (posted posts : List (ℕ × Post)) (drawn : List ℕ) (n : ℕ) (answer : AtAnswer) (old new : WorkerShift)
     → old.stopped ≡ None → IsShift f number in_round limit noted posted drawn old → IsVisit f number (n + 1) in_round limit more posts answer → IsListing (n + 1) answer old new
     → IsShift f number in_round limit (noted ++ more) (posted ++ posts) (drawn ++ n ∷ []) new
-visits-more f number in_round limit noted more posted posts drawn n answer old new unstopped s v l = let see = seen f number (n + 1) in_round limit more posts answer v in record {
+visits-more f number in_round limit noted more posted posts drawn n answer old new unstopped s v l =
+  let see = seen f number (n + 1) in_round limit more posts answer v in
+  let one : Visited = record { at = n + 1; answer = answer; noted = more; posted = posts } in
+  let Fits : Visited → Type 0 = λ w. IsVisit f number w.at in_round limit w.noted w.posted w.answer in
+  record {
   worker = l.worker ∙ s.worker;
   round = l.round ∙ s.round;
   taken = l.taken ∙ ap (λ (xs : List ℕ). xs ++ (n + 1) ∷ []) s.taken ∙ sym (map-append (λ k. k + 1) drawn (n ∷ []));
-  visits = s.visits ++ (n + 1, answer) ∷ [];
-  visited = l.taken ∙ ap (λ (xs : List ℕ). xs ++ (n + 1) ∷ []) s.visited ∙ sym (map-append (λ (v : ℕ × AtAnswer). v.0) s.visits ((n + 1, answer) ∷ []));
-  busy_are = l.busy ∙ ap (λ (bs : List BusyAt). bs ++ busy_of (n + 1) answer) s.busy_are ∙ all_more (λ v. busy_of v.0 v.1) s.visits (n + 1, answer);
-  late_are = l.late ∙ ap (λ (bs : List LateAt). bs ++ late_of (n + 1) answer) s.late_are ∙ all_more (λ v. late_of v.0 v.1) s.visits (n + 1, answer);
-  wide_are = l.wide ∙ ap (λ (bs : List WideAt). bs ++ wide_of (n + 1) answer) s.wide_are ∙ all_more (λ v. wide_of v.0 v.1) s.visits (n + 1, answer);
+  visits = s.visits ++ one ∷ [];
+  each = All-append Fits s.visits (one ∷ []) s.each (All-cons Fits one [] v (All-nil Fits));
+  visited = l.taken ∙ ap (λ (xs : List ℕ). xs ++ (n + 1) ∷ []) s.visited ∙ sym (map-append (λ (w : Visited). w.at) s.visits (one ∷ []));
+  notes = ap (λ (ns : List Note). ns ++ more) s.notes ∙ all_more (λ w. w.noted) s.visits one;
+  posted_are = ap (λ (ps : List (ℕ × Post)). ps ++ posts) s.posted_are ∙ all_more (λ w. w.posted) s.visits one;
+  busy_are = l.busy ∙ ap (λ (bs : List BusyAt). bs ++ busy_of (n + 1) answer) s.busy_are ∙ all_more (λ w. busy_of w.at w.answer) s.visits one;
+  late_are = l.late ∙ ap (λ (bs : List LateAt). bs ++ late_of (n + 1) answer) s.late_are ∙ all_more (λ w. late_of w.at w.answer) s.visits one;
+  wide_are = l.wide ∙ ap (λ (bs : List WideAt). bs ++ wide_of (n + 1) answer) s.wide_are ∙ all_more (λ w. wide_of w.at w.answer) s.visits one;
   commits = l.commits ∙ ap (λ (ns : List ℕ). ns ++ commits_of answer) s.commits ∙ ap (λ (ns : List ℕ). positions posted ++ ns) (commits_are f number (n + 1) in_round limit more posts answer v)
       ∙ sym (map-append (λ (q : ℕ × Post). q.0) posted posts);
   posts = All-append (IsPostOf number in_round) posted posts s.posts (posts_are f number (n + 1) in_round limit more posts answer v);

@@ -15,7 +15,7 @@ use Rattle.cp_worker.specs.declared.lists.BusyAt.{BusyAt}
 use Rattle.cp_worker.specs.declared.lists.LateAt.{LateAt}
 use Rattle.cp_worker.specs.declared.lists.WideAt.{WideAt}
 use Rattle.cp_worker.specs.declared.lists.WorkerShift.{WorkerShift}
-use Rattle.cp_worker.specs.Visits.{positions, clauses_after, IsPostOf}
+use Rattle.cp_worker.specs.Visits.{positions, clauses_after, IsPostOf, IsVisit}
 use Rattle.cp_worker.specs.Listing.{busy_of, late_of, wide_of}
 
 -- x was got with some clauses, and among those, after these posts, the search gives this
@@ -63,17 +63,27 @@ abbrev pub IsStopped : Base → List Note → List (ℕ × Post) → List ℕ �
 IsStopped f noted posted taken stop =
     (x : ℕ) × IsLast x taken × ((before own : List (ℕ × Post)) × (posted ≡ before ++ own) × EndsStopped f x noted own stop)
 
--- what a shift of the worker in the round comes to, with the numbers that it drew. The candidates stand with the answers of their visits, and the
--- lists are those of the answers, in this order
+-- the visit of a candidate: its answer, and what was noted and posted in it
+pub record Visited : Type 0 where
+  pub at : ℕ
+  pub answer : AtAnswer
+  pub noted : List Note
+  pub posted : List (ℕ × Post)
+
+-- What a shift of the worker in the round comes to, with the numbers that it drew. It is the visits of its candidates, one after the other: their
+-- notes and posts are all that was noted and posted, and the lists are those of their answers, in this order.
 pub record IsShift (f : Base) (number in_round limit : ℕ) (noted : List Note) (posted : List (ℕ × Post)) (drawn : List ℕ) (s : WorkerShift) : Type 0 where
   pub worker : s.worker ≡ number
   pub round : s.round ≡ in_round
   pub taken : s.taken.items ≡ candidates_of drawn
-  pub visits : List (ℕ × AtAnswer)
-  pub visited : s.taken.items ≡ map (λ v. v.0) visits
-  pub busy_are : s.busy.items ≡ flat_map (λ v. busy_of v.0 v.1) visits
-  pub late_are : s.late.items ≡ flat_map (λ v. late_of v.0 v.1) visits
-  pub wide_are : s.wide.items ≡ flat_map (λ v. wide_of v.0 v.1) visits
+  pub visits : List Visited
+  pub each : All (λ v. IsVisit f number v.at in_round limit v.noted v.posted v.answer) visits
+  pub visited : s.taken.items ≡ map (λ v. v.at) visits
+  pub notes : noted ≡ flat_map (λ v. v.noted) visits
+  pub posted_are : posted ≡ flat_map (λ v. v.posted) visits
+  pub busy_are : s.busy.items ≡ flat_map (λ v. busy_of v.at v.answer) visits
+  pub late_are : s.late.items ≡ flat_map (λ v. late_of v.at v.answer) visits
+  pub wide_are : s.wide.items ≡ flat_map (λ v. wide_of v.at v.answer) visits
   pub commits : s.commits.items ≡ positions posted
   pub posts : All (IsPostOf number in_round) posted
   pub busy : All (IsBusy noted) s.busy.items
