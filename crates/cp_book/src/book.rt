@@ -3,7 +3,7 @@
 //! A post takes two steps. `prepare` takes all memory that the post needs, and `post` then takes none, so a refusal for
 //! want of memory comes before anything changes. `post_legal` is the post of one who knows already that the entry is legal.
 //! The first formula is kept only for contracts.
-ghost use Rattle.std.specs.Prelude.{◌≡◌, ◌≤◌, [], ℕ, IsTrue, IsFalse, OnOk, OnErr, IfOk, IfErr, Some, None, Err, length};
+ghost use Rattle.std.specs.Prelude.{◌≡◌, ◌≤◌, [], ℕ, IsTrue, IsFalse, OnOk, OnErr, IfOk, IfErr, IsOk, Some, None, Err, length};
 ghost use Rattle.cp_logic.specs.Formulas.{IsFormula};
 ghost use Rattle.cp_logic.specs.Legality.{is_legal, is_legal_in};
 ghost use Rattle.cp_logic.specs.Entries.{numbered, is_look};
@@ -70,9 +70,10 @@ impl Model for Book {
 }
 
 impl Book {
-    /// A book with no posts over this formula, whose clauses are the current ones.
+    /// A book with no posts over this formula, whose clauses are the current ones. It takes no memory, so it is never refused.
     pub fn new(alloc: Global, formula: Formula, rules: Rules) -> Result<Book, AllocError>
-        ensures { IfOk result (λ b. b ≡ record { first = formula.formula; rules = rules; posts = []; prepared = None }) }
+        ensures made { IsOk result }
+        ensures book { IfOk result (λ b. b ≡ record { first = formula.formula; rules = rules; posts = []; prepared = None }) }
     {
         let vars = formula.vars();
         Ok(Book {

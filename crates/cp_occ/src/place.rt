@@ -1,5 +1,5 @@
 //! Places: clauses that are shared and never change.
-ghost use Rattle.std.specs.Prelude.{◌≡◌, IfOk};
+ghost use Rattle.std.specs.Prelude.{◌≡◌, IfOk, IsOk};
 
 use cp_logic::Clause;
 use std::alloc::{AllocError, Global};
@@ -22,9 +22,10 @@ impl Model for Place {
 }
 
 impl Place {
-    /// The first place of the clause. It takes no memory beside the clause's own.
+    /// The first place of the clause. It takes no memory beside the clause's own, so it is never refused.
     pub fn new(_alloc: Global, clause: Clause) -> Result<Place, AllocError>
-        ensures { IfOk result (λ p. p ≡ clause) }
+        ensures place { IfOk result (λ p. p ≡ clause) }
+        ensures made { IsOk result }
     {
         Ok(Place { shared: clause })
     }

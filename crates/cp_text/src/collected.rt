@@ -1,6 +1,6 @@
 //! The bytes that were fed to a reader.
 
-ghost use Rattle.std.specs.Prelude.{◌≡◌, ◌+◌, ◌≤◌, [], length, is_ok, if◌then◌else◌};
+ghost use Rattle.std.specs.Prelude.{◌≡◌, ◌+◌, ◌<◌, ◌≤◌, [], length, is_ok, if◌then◌else◌, IsOk};
 ghost use Rattle.cp_text.specs.Collected.{Kept, with_bytes};
 
 use std::alloc::{AllocError, Global};
@@ -32,9 +32,10 @@ impl Collected {
         }
     }
 
-    /// Keeps these bytes too. Where there is no memory, all is as before.
+    /// Keeps these bytes too. Where there is no memory, all is as before. Past the limit it takes none.
     pub fn take(&mut self, bytes: &[u8]) -> Result<(), AllocError>
-        ensures { self.new ≡ (if is_ok result then with_bytes self.old bytes.now else self.old) }
+        ensures full { self.old.limit < length self.old.bytes → IsOk result }
+        ensures bytes { self.new ≡ (if is_ok result then with_bytes self.old bytes.now else self.old) }
     {
         let have = self.bytes.len() as u64;
         if have > self.limit {

@@ -25,7 +25,7 @@ module _ (c : goal.In_ok-again-2) where
   entering-there = subst (Entering (record { number = c.args.number; clause = c.args.clause.now }) c.args.cells.now c.loop-var.cells) c.in-Some.ensures.steps c.loop-var.invariant
 
   same-clause : c.in_ok-again-2.field-0 ≡ c.args.clause.now
-  same-clause = cc (c.in_ok-again-2.ensures, c.in_ok-place.ensures, c.in_ok-again.ensures)
+  same-clause = cc (c.in_ok-again-2.ensures, c.in_ok-place.ensures.place, c.in_ok-again.ensures)
 
 pub put-requires-clause-above : goal.put-requires-clause-above
 put-requires-clause-above c =
@@ -40,7 +40,7 @@ put-requires-clause-has c =
 
 pub loop-var-preserved : goal.loop-var-preserved
 loop-var-preserved c =
-    let place-is : c.in_ok-again-2.field-0 ≡ c.args.clause.now = cc (c.in_ok-again-2.ensures, c.in_ok-place.ensures, c.in_ok-again.ensures) in
+    let place-is : c.in_ok-again-2.field-0 ≡ c.args.clause.now = cc (c.in_ok-again-2.ensures, c.in_ok-place.ensures.place, c.in_ok-again.ensures) in
     Entering-step (record { number = c.args.number; clause = c.args.clause.now }) c.args.cells.now c.loop-var.cells c.in-Some.var c.next.new.self
     (subst (Entering (record { number = c.args.number; clause = c.args.clause.now }) c.args.cells.now c.loop-var.cells) c.in-Some.ensures.steps c.loop-var.invariant)
     c.index-cells-var.result c.put.new.cell c.in_ok-put.ensures.variable

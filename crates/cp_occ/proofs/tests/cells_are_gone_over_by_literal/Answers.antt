@@ -9,6 +9,6 @@ has x place clause lits p e f h = rw (p, e, f, h) refl
 
 pub insert-requires-clause-has : goal.insert-requires-clause-has
 insert-requires-clause-has g c =
-    has _ _ _ _ c.in_ok-new.ensures c.in_ok-clause.ensures
+    has _ _ _ _ c.in_ok-new.ensures.place c.in_ok-clause.ensures
     (c.as_slice.ensures ∙ ap (λ (a : ℕ). a ∷ c.new-2.result ∷ []) c.new.ensures ∙ ap (λ (b : ℕ). 2 ∷ b ∷ []) c.new-2.ensures)
     (c.in_ok-reserve.ensures.variable ∙ c.new-cell.ensures.variable)
