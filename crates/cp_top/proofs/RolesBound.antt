@@ -67,6 +67,7 @@ none-bound ports n = record {
   bound = record { ways = n; names = λ role. any-name role (ports role).name };
   rest = record { left = λ r. refl; held = λ r. refl; read_faults = λ r. refl; write_faults = λ r. refl };
   others = λ r none. refl;
+  steady = λ r. refl;
 }
 
 -- the role that is bound next isn't bound yet
@@ -98,8 +99,14 @@ module _ (bs : List Binding) (role : Role) (way : Way) (name : List ℕ) (old mi
       | inr apart ↦ m.others r apart ∙ so_far.others r (sym (last-apart bs (bind role way name) r apart) ∙ free)
     ]
 
+    steady : (r : Role) → (new r).bind_faults ≡ (old r).bind_faults
+    steady r = elim (role_cases r role) [
+      | inl same ↦ rw same (m.here.steady ∙ so_far.steady role)
+      | inr apart ↦ ap (λ (p : Port). p.bind_faults) (m.others r apart) ∙ so_far.steady r
+    ]
+
     pub bound-next : BoundSoFar (bs ++ bind role way name ∷ []) old new
-    bound-next = record { bound = record { ways = ways; names = names }; rest = only-then old mid new so_far.rest (bind-only m); others = others }
+    bound-next = record { bound = record { ways = ways; names = names }; rest = only-then old mid new so_far.rest (bind-only m); others = others; steady = steady }
 
   -- it can't be bound
   module _ {T E : Type 0} (e : E) (m : AtRole role (Binds {T = T} {E = E} way name (Err e)) mid new) (after : List Binding) where

@@ -61,6 +61,8 @@ pub record BoundSoFar (bs : List Binding) (old new : Ports) : Type 0 where
   pub bound : JustBound bs new
   pub rest : OnlyBinds old new
   pub others : (role : Role) → binding_of bs role ≡ None → new role ≡ old role
+  -- no bind failed
+  pub steady : (role : Role) → (new role).bind_faults ≡ (old role).bind_faults
 
 -- A bind of this role has failed, and those before it are bound.
 pub record FailedToBind (bs : List Binding) (role : Role) (old new : Ports) : Type 0 where

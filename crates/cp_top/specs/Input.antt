@@ -1,5 +1,5 @@
 -- What reading an input does to its port, and what the inputs of a run say.
-use Rattle.std.specs.Prelude.{◌≡◌, ◌≤◌, ◌+◌, ℕ, List, Bool, take, length, Option, Result, Ok, Err, IfSome}
+use Rattle.std.specs.Prelude.{◌≡◌, ◌≤◌, ◌+◌, ℕ, List, Bool, take, length, Option, Result, Ok, Err, IfSome, OnOk}
 use Rattle.std.specs.Global.{Vec}
 use Rattle.cp_io.specs.declared.role.Role.{Role}
 use Rattle.cp_io.specs.declared.role.Role.TheVariants.{Cnf, Stack, Model}
@@ -49,6 +49,8 @@ InputAnswer role (Err refusal) old new = ⊥
 pub record ReadsInput (role : Role) (result : Result (Vec ℕ) Refusal) (old new : Port) : Type 0 where
   pub answer : InputAnswer role result old new
   pub only : OnlyReads old new
+  -- where bytes were read no read failed
+  pub steady : OnOk result (new.read_faults ≡ old.read_faults)
 
 -- what a text says: a formula, which has numbers to spare, or why there is none
 abbrev pub FormulaSaid : List ℕ → Result Held Refusal → Type 0

@@ -8,6 +8,7 @@ returns-in-Ok g c =
       here = record {
         answer = front 1073741825 c.in-Ok.bytes.items (g.D.Desk.port c.args.desk.now c.args.role).left (g.D.Desk.port c.read_up_to.new.desk c.args.role).left m.here.answer.left m.here.answer.bound m.here.answer.end;
         only = record { rest = m.here.rest };
+        steady = m.here.answer.steady;
       };
       others = m.others;
     }
