@@ -16,11 +16,11 @@ use Rattle.cp_logic.proofs.Parts.{eliminate-fits}
 use Rattle.cp_logic.proofs.Expansions.{within_at, variable_within}
 use Rattle.cp_logic.proofs.ListFacts.{drop-at}
 use Rattle.cp_logic.proofs.SetFacts.{no_members}
-use Rattle.cp_book.specs.Passes.{resolvents_with}
+use Rattle.cp_logic.specs.Resolvents.{resolvents_by}
 
 -- the resolvents of the clause that is read, and then those of the others
 pub resolvents-read : (x i : ℕ) (pos neg : List Named) (c : Named) → i < length pos → c ≡ get_or pos i c
-    → resolvents x (drop i pos) neg ≡ resolvents_with (positive x) c.clause neg ++ resolvents x (drop (i + 1) pos) neg
+    → resolvents x (drop i pos) neg ≡ resolvents_by (positive x) c.clause neg ++ resolvents x (drop (i + 1) pos) neg
 resolvents-read x i pos neg c h e =
     ap (λ cs. resolvents x cs neg) (drop-at pos i c h e)
     ∙ filter-append (λ k. not (is_tautology k)) (map (λ (d : Named). resolvent (positive x) c.clause d.clause) neg)

@@ -8,7 +8,7 @@ ghost use Rattle.cp_logic.specs.Clauses.{has_variable};
 ghost use Rattle.cp_logic.specs.Formulas.{clauses_of};
 ghost use Rattle.cp_logic.specs.Entries.{Eliminate};
 ghost use Rattle.cp_logic.specs.Legality.{same_named, same_list, same_clauses, clauses_with, has_tautology_at, is_blocked, resolvents, fits};
-ghost use Rattle.cp_book.specs.Passes.{resolvents_with};
+ghost use Rattle.cp_logic.specs.Resolvents.{resolvents_by};
 
 use cp_logic::{Clause, Formula, Lit, Named, NamedList};
 
@@ -112,8 +112,8 @@ fn after_resolvents<'a>(
     others: &NamedList,
     lit: Lit,
 ) -> Option<&'a [Named]>
-    ensures some { IfSome result (λ rest. (more : List (List ℕ)) → same_clauses (clauses_of list.now) (resolvents_with lit clause.now others.now.items ++ more) ≡ same_clauses (clauses_of rest.now) more) }
-    ensures none { IfNone result ((more : List (List ℕ)) → same_clauses (clauses_of list.now) (resolvents_with lit clause.now others.now.items ++ more) ≡ false) }
+    ensures some { IfSome result (λ rest. (more : List (List ℕ)) → same_clauses (clauses_of list.now) (resolvents_by lit clause.now others.now.items ++ more) ≡ same_clauses (clauses_of rest.now) more) }
+    ensures none { IfNone result ((more : List (List ℕ)) → same_clauses (clauses_of list.now) (resolvents_by lit clause.now others.now.items ++ more) ≡ false) }
 {
     let mut rest = list;
     for other in others.as_slice() {

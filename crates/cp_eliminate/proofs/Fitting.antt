@@ -13,7 +13,7 @@ use Rattle.cp_logic.proofs.Members.{any_from, any_member}
 use Rattle.cp_logic.proofs.Parts.{IsEliminate, eliminate-fits}
 use Rattle.cp_logic.proofs.Locals.{same_bool, eliminate-from}
 use Rattle.cp_eliminate.specs.Eliminating.{elimination_within, is_within}
-use Rattle.cp_eliminate.specs.Resolvents.{Has}
+use Rattle.cp_eliminate.specs.Sides.{Has}
 use Rattle.cp_eliminate.proofs.Pairs.{clauses_of-numbered, length-numbered}
 
 -- where each clause has the variable, a tautology at it is any tautology

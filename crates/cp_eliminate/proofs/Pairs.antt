@@ -12,7 +12,7 @@ use Rattle.cp_logic.specs.Formulas.{clauses_of}
 use Rattle.cp_logic.specs.Entries.{numbered_from}
 use Rattle.cp_logic.specs.Legality.{resolvents}
 use Rattle.cp_logic.proofs.Locals.{same_bool}
-use Rattle.cp_eliminate.specs.Resolvents.{resolvents_by}
+use Rattle.cp_logic.specs.Resolvents.{resolvents_by}
 
 -- a list at the index of an item
 pub take-item : {X : Type 0} (xs : List X) (i : ℕ) (x : X) → i < length xs → x ≡ get_or xs i x → take (i + 1) xs ≡ take i xs ++ x ∷ []

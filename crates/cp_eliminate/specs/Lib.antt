@@ -1,4 +1,4 @@
 pub mod Eliminating
-pub mod Resolvents
+pub mod Sides
 pub mod Chosen
 pub mod Laws

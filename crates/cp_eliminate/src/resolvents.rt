@@ -5,7 +5,8 @@ ghost use Rattle.cp_logic.specs.Literals.{positive, negative};
 ghost use Rattle.cp_logic.specs.Clauses.{contains};
 ghost use Rattle.cp_logic.specs.Entries.{numbered_from};
 ghost use Rattle.cp_logic.specs.Legality.{resolvents};
-ghost use Rattle.cp_eliminate.specs.Resolvents.{resolvents_by, Has};
+ghost use Rattle.cp_logic.specs.Resolvents.{resolvents_by};
+ghost use Rattle.cp_eliminate.specs.Sides.{Has};
 
 use cp_logic::{Clause, Lit, Named, NamedList};
 use cp_occ::Lent;

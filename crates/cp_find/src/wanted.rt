@@ -8,7 +8,7 @@ ghost use Rattle.cp_logic.specs.declared.named.Named.{Named};
 ghost use Rattle.cp_find.specs.Finds.{subsumes};
 
 use crate::signatures::signature;
-use cp_logic::{Clause, Lit};
+use cp_logic::{Clause, Lit, is_subset};
 use std::marker::Model;
 
 // Among so many times as many literals, a search for each of the wanted ones costs more than a pass.
@@ -146,7 +146,7 @@ fn is_within(wanted: &[Lit], others: &[Lit]) -> bool
     if others.len() / MOST_TIMES_LONGER > wanted.len() {
         are_found(wanted, others)
     } else {
-        is_passed(wanted, others)
+        is_subset(wanted, others)
     }
 }
 
@@ -169,28 +169,4 @@ fn is_found(lit: Lit, others: &[Lit]) -> bool
     ensures { result ≡ contains others.now lit }
 {
     others.binary_search(&lit).is_ok()
-}
-
-// The same as `is_within`, by one pass over both.
-fn is_passed(wanted: &[Lit], others: &[Lit]) -> bool
-    requires ascending { IsAscending wanted.now }
-    requires others_ascending { IsAscending others.now }
-    ensures { result ≡ is_subset wanted.now others.now }
-{
-    if others.len() < wanted.len() {
-        return false;
-    }
-    let mut left = wanted;
-    for other in others {
-        let Some((first, rest)) = left.split_first() else {
-            return true;
-        };
-        if first.code() < other.code() {
-            return false;
-        }
-        if *first == *other {
-            left = rest;
-        }
-    }
-    left.is_empty()
 }

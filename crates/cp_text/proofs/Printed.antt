@@ -5,6 +5,7 @@ use Rattle.std.specs.Option.{option_and_then}
 use Rattle.std.specs.Char.{is_ascii_digit}
 use Rattle.std.specs.List.{list_any}
 use Rattle.std.specs.Str.{all_ascii_digits}
+use Rattle.std.proofs.lemmas.Bool.{and_parts}
 use Rattle.std.proofs.lemmas.Bool.Decides.{nat_tests}
 use Rattle.std.proofs.lemmas.Str.Parse.{IsNumeralModel, numerals_by_fold}
 use Rattle.std.proofs.lemmas.Fmt.{digits_decimal, digits_value-decimal, decimal_nonempty}
@@ -22,13 +23,9 @@ read_on n (c ∷ cs) = read_on (10 * n + (c - 48)) cs
 own : IsNumeralModel (λ ds. all_ascii_digits ds ≡ true) (read_on 0)
 own = numerals_by_fold _ (search rules) read_on (search rules)
 
-and_true : (a b : Bool) → (a && b) ≡ true → (a ≡ true) × (b ≡ true)
-and_true true b e = (refl, e)
-and_true false b e = absurd cc
-
 digits-read : (n : ℕ) (ds : List ℕ) → all_ascii_digits ds ≡ true → digits_from n ds ≡ Some (read_on n ds)
 digits-read n [] h = refl
-digits-read n (c ∷ cs) h = let parts = and_true (is_ascii_digit c) (all_ascii_digits cs) h in rw parts.0 (digits-read (10 * n + (c - 48)) cs parts.1)
+digits-read n (c ∷ cs) h = let parts = and_parts (is_ascii_digit c) (all_ascii_digits cs) h in rw parts.0 (digits-read (10 * n + (c - 48)) cs parts.1)
 
 digits-value : (ds : List ℕ) → all_ascii_digits ds ≡ true → 0 < length ds → digits_value ds ≡ Some (read_on 0 ds)
 digits-value [] h some = absurd (omega arith)
@@ -48,7 +45,7 @@ negative-decimal n some = let t : eqb n 0 ≡ false = grind (arith, nat_tests) i
 of_digits : (n : ℕ) (ds : List ℕ) → all_ascii_digits ds ≡ true → digits_value ds ≡ Some n → number_of ds ≡ Some (plus n)
 of_digits n [] h v = absurd cc
 of_digits n (c ∷ cs) h v =
-    let parts = and_true (is_ascii_digit c) (all_ascii_digits cs) h in
+    let parts = and_parts (is_ascii_digit c) (all_ascii_digits cs) h in
     let first : is_ascii_digit c ≡ true = parts.0 in
     let t : eqb c 45 ≡ false = grind (arith, nat_tests) in
     rw (t, v) refl
@@ -70,7 +67,7 @@ solid_digit c h = grind (arith, nat_tests)
 
 solid_digits : (ds : List ℕ) → all_ascii_digits ds ≡ true → list_any separates ds ≡ false
 solid_digits [] h = refl
-solid_digits (c ∷ cs) h = let parts = and_true (is_ascii_digit c) (all_ascii_digits cs) h in rw (solid_digit c parts.0) (solid_digits cs parts.1)
+solid_digits (c ∷ cs) h = let parts = and_parts (is_ascii_digit c) (all_ascii_digits cs) h in rw (solid_digit c parts.0) (solid_digits cs parts.1)
 
 pub decimal-is_word : (n : ℕ) → n < 2 ^ 64 → IsWord (decimal n)
 decimal-is_word n small = record { some = decimal_nonempty n small; solid = solid_digits (decimal n) (digits_decimal own n small) }

@@ -1,5 +1,6 @@
 -- What the value of an option is known to be after a parse, where the option has a default.
 use Rattle.std.proofs.Common.{◌≡◌, ◌∙◌, ◌<◌, ◌≤◌, ◌&&◌, ◌||◌, ap, cond, ℕ, Bool, zero, suc, true, false, not, List, [], ◌∷◌, length, is_some, map, option_map, Option, Some, None, refl, sym, subst, inl, inr, arith}
+use Rattle.std.proofs.lemmas.Bool.{and_parts}
 use Rattle.std.specs.Prelude.{slice_get, codes, find}
 use Rattle.std.specs.List.{All, list_all, list_any, slice_index_or}
 use Rattle.std.specs.Str.{bytes_eq}
@@ -34,10 +35,6 @@ only_at k id [] = true
 only_at zero id (option ∷ options) = not (list_any (λ r. bytes_eq r.id id) options)
 only_at (suc k) id (option ∷ options) = not (bytes_eq option.id id) && only_at k id options
 
-both : (a b : Bool) → (a && b) ≡ true → (a ≡ true) × (b ≡ true)
-both true b e = (refl, e)
-both false b e = cc
-
 no_other : (id : Text) (args : List Arg) → not (list_any (λ r. bytes_eq r.id id) (map rule_of args)) ≡ true
     → (j : ℕ) (e : Arg) → j < length args → bytes_eq (slice_index_or args j e).id.now id ≡ true → ⊥
 no_other id [] none j e lt same = absurd (omega arith)
@@ -57,11 +54,11 @@ only_there k id [] only j e lt same = absurd (omega arith)
 only_there zero id (a ∷ args) only zero e lt same = refl
 only_there zero id (a ∷ args) only (suc j) e lt same = absurd (no_other id args only j e (omega arith) same)
 only_there (suc k) id (a ∷ args) only zero e lt same =
-    let parts = both (not (bytes_eq a.id.now id)) _ only in
+    let parts = and_parts (not (bytes_eq a.id.now id)) _ only in
     let bad : false ≡ true = rw same at parts.0 in
     cc
 only_there (suc k) id (a ∷ args) only (suc j) e lt same =
-    let parts = both (not (bytes_eq a.id.now id)) _ only in
+    let parts = and_parts (not (bytes_eq a.id.now id)) _ only in
     ap suc (only_there k id args parts.1 j e (omega arith) same)
 
 pub rule_at : (args : List Arg) (k : ℕ) (d : Arg) → rule_of (slice_index_or args k d) ≡ slice_index_or (map rule_of args) k (rule_of d)
@@ -81,7 +78,7 @@ same_length (a ∷ args) = ap suc (same_length args)
 -- a command whose options are simple and free excludes nothing
 plain_command : (c : Command) → IsSimple c → has_free_rules (shape_of c) ≡ true → has_simple_rules (shape_of c) ≡ true → IsPlain c
 plain_command c simple free ok =
-    let parts = both _ _ ok in
+    let parts = and_parts _ _ ok in
     let frees = free_args c simple free in
     let groups = simple_groups c parts.1 in (
       (λ k d lt. (
@@ -258,7 +255,7 @@ number_taken c m p app is exact k id q default lt there only own =
     let ready : is_ready (shape_of c) ≡ true = ap (λ (x : App). is_ready x.top) is ∙ exact.ready in
     let simple = ready_simple c ready (ap (λ (x : App). list_all is_ready_leaf x.subs) is ∙ exact.leaves) in
     let free : has_free_rules (shape_of c) ≡ true = ap (λ (x : App). has_free_rules x.top) is ∙ exact.free in
-    let plain = plain_command c simple free (both _ _ ready).0 in
+    let plain = plain_command c simple free (and_parts _ _ ready).0 in
     let id_is : a.id.now ≡ id = ap (λ (r : Rule). r.id) rule in
     let only_here : only_at k a.id.now (map rule_of (args_of c)) ≡ true =
     subst (λ (w : Text). only_at k w (map rule_of (args_of c)) ≡ true) (sym id_is) (subst (λ (rules : List Rule). only_at k id rules ≡ true) (sym rules_are) only) in

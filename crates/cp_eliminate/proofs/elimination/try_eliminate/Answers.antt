@@ -6,7 +6,7 @@ use Rattle.cp_logic.specs.Entries.{Eliminate, numbered_from}
 use Rattle.cp_logic.specs.Legality.{resolvents}
 use Rattle.cp_occ.proofs.Having.{cell-have}
 use Rattle.cp_eliminate.specs.Eliminating.{is_within}
-use Rattle.cp_eliminate.specs.Resolvents.{Has}
+use Rattle.cp_eliminate.specs.Sides.{Has}
 use Rattle.cp_eliminate.proofs.Fitting.{tautology-at, none-tautology, none-beyond, some-within, have-literal}
 use Rattle.cp_eliminate.proofs.elimination.try_eliminate.Goals as goal
 

@@ -6,7 +6,7 @@ use Rattle.cp_logic.specs.Literals.{positive, negative}
 use Rattle.cp_logic.specs.Clauses.{contains, is_tautology, resolvent}
 use Rattle.cp_logic.specs.Entries.{numbered_from}
 use Rattle.cp_logic.proofs.LiteralFacts.{negated-positive}
-use Rattle.cp_eliminate.specs.Resolvents.{resolvents_by}
+use Rattle.cp_logic.specs.Resolvents.{resolvents_by}
 use Rattle.cp_eliminate.proofs.Pairs.{take-item, resolvent-more, tautology-more}
 use Rattle.cp_eliminate.proofs.resolvents.add_resolvents.Goals as goal
 use Rattle.cp_eliminate.proofs.resolvents.add_resolvents.Goals.{then-not-resolves_to_tautology+in_ok-number+in_ok-built+in_ok-push, else-not-resolves_to_tautology}

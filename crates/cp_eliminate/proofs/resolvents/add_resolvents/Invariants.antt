@@ -1,7 +1,7 @@
 use Rattle.std.proofs.Common.{◌≡◌, ◌+◌, ◌++◌, length, take}
 use Rattle.cp_logic.specs.Literals.{positive}
 use Rattle.cp_logic.specs.Entries.{numbered_from}
-use Rattle.cp_eliminate.specs.Resolvents.{resolvents_by}
+use Rattle.cp_logic.specs.Resolvents.{resolvents_by}
 use Rattle.cp_eliminate.proofs.resolvents.add_resolvents.Given as goal
 
 -- the resolvents with the clauses so far

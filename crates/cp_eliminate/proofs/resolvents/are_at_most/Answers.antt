@@ -3,7 +3,7 @@ use Rattle.std.specs.Prelude.{nat_le}
 use Rattle.cp_logic.specs.Literals.{positive}
 use Rattle.cp_logic.specs.Legality.{resolvents}
 use Rattle.cp_logic.proofs.ListFacts.{drop-at}
-use Rattle.cp_eliminate.specs.Resolvents.{resolvents_by}
+use Rattle.cp_logic.specs.Resolvents.{resolvents_by}
 use Rattle.cp_eliminate.proofs.Pairs.{by-same, count-rest, count-above}
 use Rattle.cp_eliminate.proofs.resolvents.are_at_most.Goals as goal
 

@@ -1,5 +1,5 @@
 use Rattle.std.proofs.Common.{◌≡◌, ◌+◌, length, drop}
-use Rattle.cp_eliminate.specs.Resolvents.{resolvents_by}
+use Rattle.cp_logic.specs.Resolvents.{resolvents_by}
 use Rattle.cp_eliminate.proofs.resolvents.left_after.Given as goal
 
 -- as many were counted down as there are resolvents with the clauses so far

@@ -2,7 +2,7 @@ use Rattle.std.proofs.Common.{◌+◌, ◌++◌, ◌∙◌, length, take, sym, a
 use Rattle.cp_logic.specs.Literals.{positive}
 use Rattle.cp_logic.specs.Entries.{numbered_from}
 use Rattle.cp_logic.specs.Legality.{resolvents}
-use Rattle.cp_eliminate.specs.Resolvents.{resolvents_by}
+use Rattle.cp_logic.specs.Resolvents.{resolvents_by}
 use Rattle.cp_eliminate.proofs.Pairs.{take-item, numbered-more}
 use Rattle.cp_eliminate.proofs.resolvents.numbered_resolvents.Goals as goal
 

@@ -10,7 +10,7 @@ use Rattle.cp_occ.specs.Cells.{from_number}
 use Rattle.cp_find.specs.Finds.{subsumes, struck, turned, strengthens}
 use Rattle.cp_find.specs.Past.{ArePassed, strengthens_at, first_other}
 use Rattle.cp_find.proofs.Firsts.{alone, first-strengthened, strengthening_by}
-use Rattle.cp_find.proofs.Passes.{IsAscending-turned}
+use Rattle.cp_find.proofs.Turned.{IsAscending-turned}
 use Rattle.cp_find.proofs.Past.{pairs-none, pairs-left, pairs-gone, pairs-found, strengthenings-tie}
 use Rattle.cp_find.proofs.Scans.{first_some, some-here}
 use Rattle.cp_find.proofs.strengthening.next_strengthened.Goals as goal
