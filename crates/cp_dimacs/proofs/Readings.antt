@@ -108,8 +108,8 @@ all-read limits input all (Err NoMemory) is answer = tt
 all-read limits input all (Err (BadInput at kind)) is answer = sym (reads-within limits all) ∙ ap (reads limits) (sym is) ∙ answer
 all-read limits input all (Err (TooLarge which at)) is answer = sym (reads-within limits all) ∙ ap (reads limits) (sym is) ∙ answer
 
-pub finishes : (limits : Limits) (kept bytes : List ℕ) (refused : Bool) (r : ReaderState) (result : Result Held CnfRefusal) → (let s : ReaderState = record { limits = limits; input = kept; refused = refused } in s) ≡ r → bytes ≡ kept → AnswersCnf limits bytes result → Finishes r result
+pub finishes : (limits : Limits) (kept bytes : List ℕ) (refused : Bool) (r : ReaderState) (result : Result Held CnfRefusal) → (let s : ReaderState = record { limits = limits; bytes = kept; refused = refused } in s) ≡ r → bytes ≡ kept → AnswersCnf limits bytes result → Finishes r result
 finishes limits kept bytes refused r result view is answer =
     let same_limits : limits ≡ r.limits = ap (λ (s : ReaderState). s.limits) view in
-    let same_input : kept ≡ r.input = ap (λ (s : ReaderState). s.input) view in
-    λ all fed. all-read r.limits bytes all result (is ∙ same_input ∙ fed) (subst (λ l. AnswersCnf l bytes result) same_limits answer)
+    let same_bytes : kept ≡ r.bytes = ap (λ (s : ReaderState). s.bytes) view in
+    λ all fed. all-read r.limits bytes all result (is ∙ same_bytes ∙ fed) (subst (λ l. AnswersCnf l bytes result) same_limits answer)

@@ -11,16 +11,16 @@ use Rattle.cp_dimacs.specs.Reads.{AnswersCnf}
 -- what contracts see of a reader: its limits, the bytes that it keeps, and whether it has refused for want of memory
 pub record ReaderState : Type 0 where
   pub limits : Limits
-  pub input : List ℕ
+  pub bytes : List ℕ
   pub refused : Bool
 
 -- These are all bytes that the reader was fed: it keeps those within the limit and one more.
 abbrev pub IsFed : ReaderState → List ℕ → Type 0
-IsFed r all = r.input ≡ take (r.limits.bytes + 1) all
+IsFed r all = r.bytes ≡ take (r.limits.bytes + 1) all
 
 -- the reader that was fed these bytes too
 abbrev pub with_piece : ReaderState → List ℕ → ReaderState
-with_piece r bytes = record r { input = take (r.limits.bytes + 1) (r.input ++ bytes) }
+with_piece r bytes = record r { bytes = take (r.limits.bytes + 1) (r.bytes ++ bytes) }
 
 -- Where it has refused, and only then or for want of memory, it refuses; and it keeps what it was fed.
 abbrev pub Feeds : ReaderState → List ℕ → Result Feed CnfRefusal → ReaderState → Type 0

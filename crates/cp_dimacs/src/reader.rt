@@ -23,7 +23,7 @@ use std::marker::Model;
 pub struct CnfReader {
     alloc: Global,
     limits: Limits,
-    input: Collected,
+    collected: Collected,
     // Whether memory was wanting.
     refused: bool,
 }
@@ -31,21 +31,21 @@ pub struct CnfReader {
 impl Model for CnfReader {
     ghost Value = { ReaderState };
 
-    ghost view = { λ r. record { limits = r.limits; input = r.input.bytes; refused = r.refused } };
+    ghost view = { λ r. record { limits = r.limits; bytes = r.collected.bytes; refused = r.refused } };
 
-    ghost invariant = { λ r. IsWithinStandard r.limits × (r.input.limit ≡ r.limits.bytes) };
+    ghost invariant = { λ r. IsWithinStandard r.limits × (r.collected.limit ≡ r.limits.bytes) };
 }
 
 impl CnfReader {
     /// A reader that was fed nothing. It takes no memory.
     pub fn new(alloc: Global, limits: Limits) -> CnfReader
         requires { IsWithinStandard limits }
-        ensures { result ≡ record { limits = limits; input = []; refused = false } }
+        ensures { result ≡ record { limits = limits; bytes = []; refused = false } }
     {
         CnfReader {
             alloc,
             limits,
-            input: Collected::new(alloc, limits.bytes),
+            collected: Collected::new(alloc, limits.bytes),
             refused: false,
         }
     }
@@ -58,7 +58,7 @@ impl CnfReader {
         if self.refused {
             return Err(CnfRefusal::NoMemory);
         }
-        if self.input.take(bytes).is_err() {
+        if self.collected.take(bytes).is_err() {
             self.refused = true;
             return Err(CnfRefusal::NoMemory);
         }
@@ -67,7 +67,7 @@ impl CnfReader {
 
     /// The formula that all bytes fed read as, or their first fault, as `parse_cnf` says.
     pub fn finish(self) -> Result<Formula, CnfRefusal>
-        ensures answer { AnswersCnf self.limits self.input result }
+        ensures answer { AnswersCnf self.limits self.bytes result }
         ensures fed { Finishes self result }
         ensures refused { self.refused ≡ true → result ≡ Err NoMemory }
         ensures valid { IfOk result (λ f. IsRead self.limits f.formula) }
@@ -75,6 +75,6 @@ impl CnfReader {
         if self.refused {
             return Err(CnfRefusal::NoMemory);
         }
-        parse_cnf(self.alloc, self.input.bytes(), &self.limits)
+        parse_cnf(self.alloc, self.collected.bytes(), &self.limits)
     }
 }

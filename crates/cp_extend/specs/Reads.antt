@@ -18,15 +18,27 @@ abbrev pub AnswersInto : Limits → List ℕ → List Bool → Result (Unit {0})
 AnswersInto limits bytes old (Ok done) new = AnswersModel limits (length old) bytes (Ok new)
 AnswersInto limits bytes old (Err refusal) new = AnswersModel limits (length old) bytes (Err refusal)
 
--- a reader: what it was made with, the bytes that it keeps, and whether it was refused
-pub record Reader : Type 0 where
+-- what contracts see of a reader: its limits, its variables, the bytes that it keeps, and whether it has refused for want of memory
+pub record ReaderState : Type 0 where
   pub limits : Limits
   pub variables : ℕ
   pub bytes : List ℕ
   pub refused : Bool
 
--- Of the bytes that were fed at most one past the limit is kept. A reader that was refused is refused from then on.
-abbrev pub Feeds : Reader → List ℕ → Result Feed ModelRefusal → Reader → Type 0
-Feeds old bytes (Ok More) new = (old.refused ≡ false) × (new ≡ record old { bytes = take (old.limits.bytes + 1) (old.bytes ++ bytes) })
+-- These are all bytes that the reader was fed: it keeps those within the limit and one more.
+abbrev pub IsFed : ReaderState → List ℕ → Type 0
+IsFed r all = r.bytes ≡ take (r.limits.bytes + 1) all
+
+-- the reader that was fed these bytes too
+abbrev pub with_piece : ReaderState → List ℕ → ReaderState
+with_piece r bytes = record r { bytes = take (r.limits.bytes + 1) (r.bytes ++ bytes) }
+
+-- Where it has refused, and only then or for want of memory, it refuses; and it keeps what it was fed.
+abbrev pub Feeds : ReaderState → List ℕ → Result Feed ModelRefusal → ReaderState → Type 0
+Feeds old bytes (Ok More) new = (old.refused ≡ false) × (new ≡ with_piece old bytes)
 Feeds old bytes (Ok Ended) new = ⊥
 Feeds old bytes (Err refusal) new = (refusal ≡ NoMemory) × (new ≡ record old { refused = true })
+
+-- The answer is what all bytes that were fed read as.
+abbrev pub Finishes : ReaderState → Result (List Bool) ModelRefusal → Type 0
+Finishes r result = (all : List ℕ) → IsFed r all → AnswersModel r.limits r.variables all result

@@ -9,7 +9,7 @@
 ghost use Rattle.std.specs.Prelude.{◌≡◌, ◌≢◌, ◌≤◌, [], false, true, length, IfOk};
 ghost use Rattle.cp_extend.specs.declared.refusal.ModelRefusal.TheVariants.{NoMemory};
 ghost use Rattle.cp_extend.specs.Grammar.{told};
-ghost use Rattle.cp_extend.specs.Reads.{AnswersModel, AnswersInto, Feeds};
+ghost use Rattle.cp_extend.specs.Reads.{AnswersModel, AnswersInto, Feeds, Finishes};
 
 use crate::parsing::take_lines;
 use crate::progress::Progress;
@@ -78,19 +78,20 @@ pub struct ModelReader {
     alloc: Global,
     limits: Limits,
     model: Assignment,
-    bytes: Collected,
+    collected: Collected,
+    // Whether memory was wanting.
     refused: bool,
 }
 
 impl Model for ModelReader {
     ghost use Rattle.std.specs.Prelude.{length, ◌≡◌, ◌≤◌};
-    ghost use Rattle.cp_extend.specs.Reads.{Reader};
+    ghost use Rattle.cp_extend.specs.Reads.{ReaderState};
 
-    ghost Value = { Reader };
+    ghost Value = { ReaderState };
 
-    ghost view = { λ r. record { limits = r.limits; variables = length r.model; bytes = r.bytes.bytes; refused = r.refused } };
+    ghost view = { λ r. record { limits = r.limits; variables = length r.model; bytes = r.collected.bytes; refused = r.refused } };
 
-    ghost invariant = { λ r. (r.bytes.limit ≡ r.limits.bytes) × (length r.model ≤ 2000000) };
+    ghost invariant = { λ r. (r.collected.limit ≡ r.limits.bytes) × (length r.model ≤ 2000000) };
 }
 
 impl ModelReader {
@@ -103,35 +104,36 @@ impl ModelReader {
             alloc,
             limits,
             model: Assignment::new(alloc, vars)?,
-            bytes: Collected::new(alloc, limits.bytes),
+            collected: Collected::new(alloc, limits.bytes),
             refused: false,
         })
     }
 
-    /// Takes the next piece of the text. It is refused only for want of memory, and each call behind that too.
+    /// Takes the next bytes of the text, and asks for more. `NoMemory` is its only refusal, and each call behind it answers it again.
     pub fn feed(&mut self, bytes: &[u8]) -> Result<Feed, ModelRefusal>
         ensures { Feeds self.old bytes.now result self.new }
     {
         if self.refused {
             return Err(ModelRefusal::NoMemory);
         }
-        if self.bytes.take(bytes).is_err() {
+        if self.collected.take(bytes).is_err() {
             self.refused = true;
             return Err(ModelRefusal::NoMemory);
         }
         Ok(Feed::More)
     }
 
-    /// The model that the text says, or why it says none: that of the first place at which the text is no model.
+    /// The model that all bytes fed read as, or their first fault, as `parse_model` says.
     pub fn finish(self) -> Result<Assignment, ModelRefusal>
         ensures refused { self.refused ≡ true → result ≡ Err NoMemory }
-        ensures answers { AnswersModel self.limits self.variables self.bytes result }
+        ensures answer { AnswersModel self.limits self.variables self.bytes result }
+        ensures fed { Finishes self result }
     {
         if self.refused {
             return Err(ModelRefusal::NoMemory);
         }
         let mut model = self.model;
-        read_into(self.alloc, &mut model, self.bytes.bytes(), &self.limits)?;
+        read_into(self.alloc, &mut model, self.collected.bytes(), &self.limits)?;
         Ok(model)
     }
 }

@@ -8,7 +8,7 @@ use Rattle.cp_text.proofs.Cuts.{sees-within}
 use Rattle.cp_stack.specs.declared.refusal.StackRefusal.{StackRefusal}
 use Rattle.cp_stack.specs.Grammar.{Stack, document, cut_at, stack_reads}
 use Rattle.cp_stack.specs.Reads.{Gives, AnswersStack}
-use Rattle.cp_stack.specs.Fed.{Fed, Finishes}
+use Rattle.cp_stack.specs.Reader.{ReaderState, Finishes}
 
 pub reads-past : (limits : Limits) (bytes : List ℕ) (lines : List Line) → ltb limits.bytes (length bytes) ≡ true → lines_within limits.bytes bytes ≡ lines → cut_at limits.bytes (document limits lines) ≡ stack_reads limits bytes
 unfolding stack_reads
@@ -27,9 +27,5 @@ reads-kept limits bytes = let same = sees-within limits.bytes bytes in rw (same.
 pub answers-all : (limits : Limits) (kept bytes : List ℕ) (result : Result HeldStack StackRefusal) → kept ≡ take (limits.bytes + 1) bytes → AnswersStack limits kept result → AnswersStack limits bytes result
 answers-all limits kept bytes result is h = subst (λ (w : Result Stack StackRefusal). Gives w result) (ap (stack_reads limits) is ∙ reads-kept limits bytes) h
 
-pub finishes : (f : Fed) (result : Result HeldStack StackRefusal) → ((e : StackRefusal) → f.refused ≢ Some e) → AnswersStack f.limits f.bytes result → Finishes f result
-finishes f result none h = go f.refused refl
-  where
-    go : (refused : Option StackRefusal) → f.refused ≡ refused → Rattle.cp_stack.specs.Fed.FinishesFrom refused f result
-    go None is = λ bytes kept. answers-all f.limits f.bytes bytes result kept h
-    go (Some e) is = absurd (none e is)
+pub finishes : (r : ReaderState) (result : Result HeldStack StackRefusal) → AnswersStack r.limits r.bytes result → Finishes r result
+finishes r result h = λ all fed. answers-all r.limits r.bytes all result fed h

@@ -1,5 +1,5 @@
 pub mod Ahead
-pub mod Fed
+pub mod Reader
 pub mod Grammar
 pub mod Laws
 pub mod Reads

@@ -1,8 +1,9 @@
 //! A reader of a stack's text that takes its bytes in pieces.
 
-ghost use Rattle.std.specs.Prelude.{◌≡◌};
+ghost use Rattle.std.specs.Prelude.{◌≡◌, [], true, false, Err};
 ghost use Rattle.cp_io.specs.Limits.{IsWithinStandard};
-ghost use Rattle.cp_stack.specs.Fed.{nothing_fed, Feeds, Finishes};
+ghost use Rattle.cp_stack.specs.declared.refusal.StackRefusal.TheVariants.{NoMemory};
+ghost use Rattle.cp_stack.specs.Reader.{Feeds, Finishes};
 
 use crate::parsing::parse_stack;
 use crate::refusal::StackRefusal;
@@ -20,15 +21,16 @@ pub struct StackReader {
     alloc: Global,
     limits: Limits,
     collected: Collected,
-    refused: Option<StackRefusal>,
+    // Whether memory was wanting.
+    refused: bool,
 }
 
 impl Model for StackReader {
     ghost use Rattle.std.specs.Prelude.{◌≡◌};
     ghost use Rattle.cp_io.specs.Limits.{IsWithinStandard};
-    ghost use Rattle.cp_stack.specs.Fed.{Fed};
+    ghost use Rattle.cp_stack.specs.Reader.{ReaderState};
 
-    ghost Value = { Fed };
+    ghost Value = { ReaderState };
 
     ghost view = { λ r. record { limits = r.limits; bytes = r.collected.bytes; refused = r.refused } };
 
@@ -39,38 +41,37 @@ impl StackReader {
     /// A reader that was fed nothing. It takes no memory.
     pub fn new(alloc: Global, limits: Limits) -> StackReader
         requires { IsWithinStandard limits }
-        ensures { result ≡ nothing_fed limits }
+        ensures { result ≡ record { limits = limits; bytes = []; refused = false } }
     {
         StackReader {
             alloc,
             limits,
             collected: Collected::new(alloc, limits.bytes),
-            refused: None,
+            refused: false,
         }
     }
 
-    /// Takes a piece of the text, and asks for more.
-    ///
-    /// It is refused for want of memory alone. After a refusal each call answers the same one.
+    /// Takes the next bytes of the text, and asks for more. `NoMemory` is its only refusal, and each call behind it answers it again.
     pub fn feed(&mut self, bytes: &[u8]) -> Result<Feed, StackRefusal>
         ensures { Feeds self.old bytes.now result self.new }
     {
-        if let Some(refusal) = self.refused {
-            return Err(refusal);
+        if self.refused {
+            return Err(StackRefusal::NoMemory);
         }
         if self.collected.take(bytes).is_err() {
-            self.refused = Some(StackRefusal::NoMemory);
+            self.refused = true;
             return Err(StackRefusal::NoMemory);
         }
         Ok(Feed::More)
     }
 
-    /// The stack that all bytes spell, or their first fault.
+    /// The stack that all bytes fed read as, or their first fault, as `parse_stack` says.
     pub fn finish(self) -> Result<Stack, StackRefusal>
-        ensures { Finishes self result }
+        ensures fed { Finishes self result }
+        ensures refused { self.refused ≡ true → result ≡ Err NoMemory }
     {
-        if let Some(refusal) = self.refused {
-            return Err(refusal);
+        if self.refused {
+            return Err(StackRefusal::NoMemory);
         }
         parse_stack(self.alloc, self.collected.bytes(), &self.limits)
     }
