@@ -7,12 +7,10 @@
 //! and a budget that commits never reach doesn't stop it (`specs/Swept.antt`).
 #![tactic(auto)]
 
-mod ground;
 mod marks;
 #[cfg(test)]
 mod tests;
 mod touch;
 mod turns;
 
-pub use ground::sweep;
-pub use turns::{Swept, simplify};
+pub use turns::{Swept, simplify, sweep};

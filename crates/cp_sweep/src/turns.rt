@@ -32,6 +32,7 @@ use cp_eliminate::search;
 use cp_find::Reached;
 use cp_logic::{Entry, Formula, Journal, Rules, Stack, Stop};
 use cp_occ::Cells;
+use cp_yard::Ground;
 use std::alloc::{AllocError, Global};
 
 /// What a sweep leaves: the formula, the journal of what was done to it, the pairs that complete its models, and why it stopped, if
@@ -70,19 +71,20 @@ pub fn simplify(alloc: Global, formula: Formula, rules: &Rules) -> Result<Swept,
 {
     let cells = Cells::of_formula(alloc, &formula)?;
     let book = Book::new(alloc, formula, *rules)?;
-    sweep_cells(alloc, book, cells)
+    sweep(alloc, Ground { book, cells })
 }
 
-/// Goes on from the book's posts until no entry of the techniques that its rules choose applies to what they leave, or the run has
-/// to stop, as `simplify` does. The cells are those of the book's current clauses.
-pub(crate) fn sweep_cells(alloc: Global, book: Book, cells: Cells) -> Result<Swept, AllocError>
-    requires cells { AreCellsOf (current book) cells.items }
-    requires numbers { book.first.next ≤ number_limit }
-    ensures swept { IfOk result (λ s. IsSweptAfter book.first book.rules book.posts s.journal.items s.formula.formula s.stopped) }
-    ensures pairs { IfOk result (λ s. pairs_of s.stack.pairs ≡ (folded book.first s.journal.items).pairs) }
-    ensures variables { IfOk result (λ s. s.stack.vars ≡ book.first.variables) }
-    ensures unspent { IfOk result (λ s. IsUnspent book.first book.rules s.stopped) }
+/// Goes on from the posts of the ground's book until no entry of the techniques that its rules choose applies to what they leave, or
+/// the run has to stop, as `simplify` does. The cells are those of the book's current clauses.
+pub fn sweep(alloc: Global, ground: Ground) -> Result<Swept, AllocError>
+    requires cells { AreCellsOf (current ground.book) ground.cells.items }
+    requires numbers { ground.book.first.next ≤ number_limit }
+    ensures swept { IfOk result (λ s. IsSweptAfter ground.book.first ground.book.rules ground.book.posts s.journal.items s.formula.formula s.stopped) }
+    ensures pairs { IfOk result (λ s. pairs_of s.stack.pairs ≡ (folded ground.book.first s.journal.items).pairs) }
+    ensures variables { IfOk result (λ s. s.stack.vars ≡ ground.book.first.variables) }
+    ensures unspent { IfOk result (λ s. IsUnspent ground.book.first ground.book.rules s.stopped) }
 {
+    let Ground { book, cells } = ground;
     book.is_legal();
     let touched = all_touched(alloc, book.clauses().vars())?;
     let mut state = Sweeping {

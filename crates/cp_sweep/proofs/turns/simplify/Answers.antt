@@ -7,8 +7,8 @@ use Rattle.cp_sweep.specs.Swept.{IsSwept, IsSweptAfter}
 use Rattle.cp_sweep.proofs.Turning.{swept-first, cells-start}
 use Rattle.cp_sweep.proofs.turns.simplify.Goals as goal
 
-pub sweep_cells-requires-clause-cells : goal.sweep_cells-requires-clause-cells
-sweep_cells-requires-clause-cells c =
+pub sweep-requires-clause-cells : goal.sweep-requires-clause-cells
+sweep-requires-clause-cells c =
     let made = c.in_ok-cells.ensures in
     subst (λ (b : BookView). AreCellsOf (folded b.first b.posts).formula c.in_ok-cells.cells.items) (sym c.in_ok-book.ensures.book)
     (cells-start c.args.formula.formula c.in_ok-cells.cells.items (record { variables = made.variables; lists = made.clauses }))
@@ -16,9 +16,9 @@ sweep_cells-requires-clause-cells c =
 pub returns-clause-swept : goal.returns-clause-swept
 returns-clause-swept c =
     let b = c.in_ok-book.book in let f = c.args.formula.formula in let rules = c.args.rules.now in
-    IfOk-weaker c.sweep_cells.result
+    IfOk-weaker c.sweep.result
     (λ s. IsSweptAfter b.first b.rules b.posts s.journal.items s.formula.formula s.stopped)
     (λ s. IsSwept f rules s.journal.items s.formula.formula s.stopped)
     (λ s h. swept-first f rules s.journal.items s.formula.formula s.stopped
     (subst (λ (d : BookView). IsSweptAfter d.first d.rules d.posts s.journal.items s.formula.formula s.stopped) c.in_ok-book.ensures.book h))
-    c.sweep_cells.ensures.swept
+    c.sweep.ensures.swept

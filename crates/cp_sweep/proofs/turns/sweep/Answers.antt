@@ -13,11 +13,11 @@ use Rattle.cp_sweep.specs.Cursor.{left_at, moved}
 use Rattle.cp_sweep.specs.Sweeping.{cursor_of}
 use Rattle.cp_sweep.proofs.UnderWay.{under_way-start, under_way-moved, under_way-next, under_way-stop, under_way-end, searches-fewer}
 use Rattle.cp_sweep.proofs.Turning.{turn-is, swept-closed, swept-unspent, stop_there, stop-named}
-use Rattle.cp_sweep.proofs.turns.sweep_cells.Goals as goal
+use Rattle.cp_sweep.proofs.turns.sweep.Goals as goal
 
 pub searches-init : goal.searches-init
 searches-init c =
-    let b = c.args.book in let f = b.first in let marks = c.in_ok-touched.touched in
+    let b = c.args.ground.book in let f = b.first in let marks = c.in_ok-touched.touched in
     let same : (current b).variables ≡ f.variables = (journal-formula f b.rules b.posts c.is_legal.ensures.first c.is_legal.ensures.journal).1 in
     let many : c.vars.result ≡ f.variables = c.vars.ensures.value ∙ ap (λ (g : Formula). g.variables) c.clauses.ensures ∙ same in
     let all = c.in_ok-touched.ensures.touched in
@@ -36,7 +36,7 @@ searches-init c =
 
 pub next_touched-requires : goal.next_touched-requires
 next_touched-requires c = λ x m.
-    let b = c.args.book in let f = b.first in
+    let b = c.args.ground.book in let f = b.first in
     let same : (current b).variables ≡ f.variables = (journal-formula f b.rules b.posts c.is_legal.ensures.first c.is_legal.ensures.journal).1 in
     let many : c.vars.result ≡ f.variables = c.vars.ensures.value ∙ ap (λ (g : Formula). g.variables) c.clauses.ensures ∙ same in
     omega (arith, (c.searches.invariant.under_way.within x m).1, c.vars.ensures.most)
@@ -45,11 +45,11 @@ pub turn-requires-clause-past : goal.turn-requires-clause-past
 turn-requires-clause-past c =
     let s = c.searches.state in let x = c.in-Some.var in
     subst (λ (g : Formula). IsPast x (occurrences (left_at g (cursor_of s)).clauses x) c.reached_at-state.result) (sym c.searches.invariant.first)
-    (c.reached_at-state.ensures (left_at c.args.book.first (cursor_of s)).clauses c.searches.invariant.past)
+    (c.reached_at-state.ensures (left_at c.args.ground.book.first (cursor_of s)).clauses c.searches.invariant.past)
 
 pub returns-in-Some-2-clause-swept : goal.returns-in-Some-2-clause-swept
 returns-in-Some-2-clause-swept c =
-    let f = c.args.book.first in let rules = c.args.book.rules in let before = c.args.book.posts in
+    let f = c.args.ground.book.first in let rules = c.args.ground.book.rules in let before = c.args.ground.book.posts in
     let s = c.searches.state in let at = moved (cursor_of s) c.in-Some.var in let d = cursor_of c.turn.new.state in
     let around = subst (IsFirstAround (is_marked s.touched) s.mark) c.in-Some.is c.next_touched.ensures in
     let way = under_way-moved f rules c.is_legal.ensures.first before (cursor_of s) c.searches.invariant.under_way c.in-Some.var around in
@@ -61,12 +61,12 @@ returns-in-Some-2-clause-swept c =
 
 pub returns-in-Some-2-clause-unspent : goal.returns-in-Some-2-clause-unspent
 returns-in-Some-2-clause-unspent c =
-    swept-unspent c.args.book.first c.args.book.rules c.args.book.posts c.closed.result.journal.items c.closed.result.formula.formula c.closed.result.stopped
+    swept-unspent c.args.ground.book.first c.args.ground.book.rules c.args.ground.book.posts c.closed.result.journal.items c.closed.result.formula.formula c.closed.result.stopped
     c.is_legal.ensures.first (returns-in-Some-2-clause-swept c)
 
 pub searches-smaller : goal.searches-smaller
 searches-smaller c =
-    let f = c.args.book.first in let rules = c.args.book.rules in let before = c.args.book.posts in
+    let f = c.args.ground.book.first in let rules = c.args.ground.book.rules in let before = c.args.ground.book.posts in
     let s = c.searches.state in let at = moved (cursor_of s) c.in-Some.var in let d = cursor_of c.turn.new.state in
     let around = subst (IsFirstAround (is_marked s.touched) s.mark) c.in-Some.is c.next_touched.ensures in
     let way = under_way-moved f rules c.is_legal.ensures.first before (cursor_of s) c.searches.invariant.under_way c.in-Some.var around in
@@ -75,7 +75,7 @@ searches-smaller c =
 
 pub searches-preserved : goal.searches-preserved
 searches-preserved c =
-    let f = c.args.book.first in let rules = c.args.book.rules in let before = c.args.book.posts in
+    let f = c.args.ground.book.first in let rules = c.args.ground.book.rules in let before = c.args.ground.book.posts in
     let s = c.searches.state in let at = moved (cursor_of s) c.in-Some.var in let d = cursor_of c.turn.new.state in
     let around = subst (IsFirstAround (is_marked s.touched) s.mark) c.in-Some.is c.next_touched.ensures in
     let way = under_way-moved f rules c.is_legal.ensures.first before (cursor_of s) c.searches.invariant.under_way c.in-Some.var around in
@@ -93,7 +93,7 @@ searches-preserved c =
 
 pub returns-clause-swept : goal.returns-clause-swept
 returns-clause-swept c =
-    let f = c.args.book.first in let rules = c.args.book.rules in let before = c.args.book.posts in let s = c.searches.state in let at = cursor_of s in
+    let f = c.args.ground.book.first in let rules = c.args.ground.book.rules in let before = c.args.ground.book.posts in let s = c.searches.state in let at = cursor_of s in
     let done : (x : ℕ) → is_marked s.touched x ≡ _ = subst (IsFirstAround (is_marked s.touched) s.mark) c.in_default.is c.next_touched.ensures in
     let left_is : current s.book ≡ left_at f at = ap (λ (g : Formula). (folded g s.book.posts).formula) c.searches.invariant.first in
     let stop_is = c.closed-2.ensures.stopped ∙ c.stopped-stopped.ensures ∙ stop-named f s.book.first rules s.book.rules s.book.posts c.searches.invariant.first c.searches.invariant.rules in
@@ -104,5 +104,5 @@ returns-clause-swept c =
 
 pub returns-clause-unspent : goal.returns-clause-unspent
 returns-clause-unspent c =
-    swept-unspent c.args.book.first c.args.book.rules c.args.book.posts c.closed-2.result.journal.items c.closed-2.result.formula.formula c.closed-2.result.stopped
+    swept-unspent c.args.ground.book.first c.args.ground.book.rules c.args.ground.book.posts c.closed-2.result.journal.items c.closed-2.result.formula.formula c.closed-2.result.stopped
     c.is_legal.ensures.first (returns-clause-swept c)
