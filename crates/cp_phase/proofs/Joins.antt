@@ -14,7 +14,7 @@ use Rattle.cp_claim.specs.Views as claims
 use Rattle.cp_worker.specs.declared.lists.WorkerShift.{WorkerShift}
 use Rattle.cp_phase.specs.declared.team.Member.{Member}
 use Rattle.cp_phase.specs.Rounds.{NoneStopped, OneStopped, IsFirstSeat}
-use Rattle.cp_phase.specs.Teams.{IsSeatOf, AreSeats, AreNew, joined_all, founder_of, claim_of, members_from, claims_joined}
+use Rattle.cp_phase.specs.Teams.{IsSeatOf, AreSeats, IsNew, AreNew, joined_all, founder_of, claim_of, members_from, claims_joined}
 use Rattle.cp_phase.proofs.Lists.{at_end, at_front, at_back, within, in_at, some_at}
 
 -- ---- seats
@@ -22,8 +22,8 @@ use Rattle.cp_phase.proofs.Lists.{at_end, at_front, at_back, within, in_at, some
 pub seats_more : (y : YardView) (seats : List Sitting) (s : Sitting) → AreSeats y seats → IsSeatOf y (length seats) s → AreSeats y (seats ++ s ∷ [])
 seats_more y seats s old new i t at = ⊎_elim (λ front. old i t front) (λ (e : (i ≡ length seats) × (s ≡ t)). subst (λ (z : ℕ × Sitting). IsSeatOf y z.0 z.1) (λ k. (sym e.0 k, e.1 k)) new) (at_end seats s t i at)
 
-pub new_more : (seats : List Sitting) (s : Sitting) → AreNew seats → s.view.own.posts ≡ [] → AreNew (seats ++ s ∷ [])
-new_more seats s old new i t at = ⊎_elim (λ front. old i t front) (λ (e : (i ≡ length seats) × (s ≡ t)). ap (λ (z : Sitting). z.view.own.posts) (sym e.1) ∙ new) (at_end seats s t i at)
+pub new_more : (seats : List Sitting) (s : Sitting) → AreNew seats → IsNew s → AreNew (seats ++ s ∷ [])
+new_more seats s old new i t at = ⊎_elim (λ front. old i t front) (λ (e : (i ≡ length seats) × (s ≡ t)). subst IsNew e.1 new) (at_end seats s t i at)
 
 -- a seat that another may take in
 pub record IsOut (y : YardView) (s : Sitting) : Type 0 where
@@ -78,13 +78,13 @@ child_is y v s k base made table is = record {
   idle = record { turn = ap (λ z. z.turn) is; held = ap (λ z. z.held) is };
 }
 
-pub child_new : (v : SeatView) (s : Sitting) → s.view ≡ child v → s.view.own.posts ≡ []
-child_new v s is = ap (λ z. z.own.posts) is
+pub child_new : (v : SeatView) (s : Sitting) → s.view ≡ child v → IsNew s
+child_new v s is = record { posts = ap (λ z. z.own.posts) is; notes = ap (λ z. z.own.notes) is }
 
 pub seats_next : (y : YardView) (old new : List Sitting) (s : Sitting) (k : ℕ) → new ≡ old ++ s ∷ [] → length old ≡ k → AreSeats y old → IsSeatOf y k s → AreSeats y new
 seats_next y old new s k e n are is = subst (AreSeats y) (sym e) (seats_more y old s are (subst (λ (j : ℕ). IsSeatOf y j s) (sym n) is))
 
-pub new_next : (old new : List Sitting) (s : Sitting) → new ≡ old ++ s ∷ [] → AreNew old → s.view.own.posts ≡ [] → AreNew new
+pub new_next : (old new : List Sitting) (s : Sitting) → new ≡ old ++ s ∷ [] → AreNew old → IsNew s → AreNew new
 new_next old new s e are is = subst AreNew (sym e) (new_more old s are is)
 
 -- ---- members

@@ -1,5 +1,5 @@
 -- How what the seats and shifts are after some rounds goes on over one more, and what it comes to at the end.
-use Rattle.std.proofs.Common.{◌≡◌, ◌≢◌, ℕ, suc, ◌+◌, ◌*◌, ◌-◌, ◌<◌, ◌≤◌, ◌⊎◌, List, [], ◌++◌, length, get_or, slice_get, Some, All, AllPairs, Contains, refl, sym, ap, subst, ◌∙◌, inl, inr, ⊎_elim, arith, append-nil, append_assoc, length-append, eq-eqb, ne_eqb, eqb-true, suc-mul, zero-mul, mul-le-mul_right}
+use Rattle.std.proofs.Common.{◌≡◌, ◌≢◌, ℕ, suc, ◌+◌, ◌*◌, ◌-◌, ◌<◌, ◌≤◌, ◌⊎◌, List, [], ◌∷◌, ◌++◌, length, get_or, slice_get, Some, All, AllPairs, Contains, refl, sym, ap, subst, ◌∙◌, inl, inr, ⊎_elim, arith, append-nil, append_assoc, length-append, eq-eqb, ne_eqb, eqb-true, suc-mul, zero-mul, mul-le-mul_right}
 use Rattle.std.specs.Prelude.{◌==◌}
 use Rattle.std.specs.List.{enumerate_from}
 use Rattle.std.proofs.lemmas.Bool.{cases_lt, cases_eq}
@@ -12,20 +12,23 @@ use Rattle.cp_yard.specs.Sitting.{Sitting, YardView}
 use Rattle.cp_worker.specs.declared.lists.WorkerShift.{WorkerShift}
 use Rattle.cp_worker.specs.Visits.{positions, IsPostOf}
 use Rattle.cp_worker.specs.Shifts.{IsShift}
-use Rattle.cp_phase.specs.Rounds.{of_round, shift_at, times_taken, NoneStopped, OneStopped, IsShiftAmong, EndsAt, AreShifts}
+use Rattle.cp_phase.specs.Rounds.{of_round, shift_at, times_taken, NoneStopped, OneStopped, all_notes, IsShiftIn, EndsAt, AreShifts}
 use Rattle.cp_phase.specs.Teams.{AreSeats, AreNew, IsRound, in_round, AreDone, ArePlayed}
 use Rattle.cp_phase.proofs.Lists.{some_same, none_some, at_front, at_back, within, some_at, row_front, row_back, row_past, filter-filter, filter-none, filter-all, AllPairs-append, before, ascending, in_enumerated}
 
--- a shift among some notes is one among these with more behind them
-among_later : (f : Base) (limit number r : ℕ) (notes more now : List Note) (posts same : List (ℕ × Post)) (s : WorkerShift) → now ≡ notes ++ more → same ≡ posts
-    → IsShiftAmong f limit number r notes posts s → IsShiftAmong f limit number r now same s
-among_later f limit number r notes more now posts same s e p a = record {
-  before = a.before;
-  noted = a.noted;
-  later = a.later ++ more;
+-- the notes of one more round
+all_more : (noted : List (List Note)) (ns : List Note) → all_notes (noted ++ ns ∷ []) ≡ all_notes noted ++ ns
+all_more [] ns = append-nil ns
+all_more (ms ∷ noted) ns = ap (λ (l : List Note). ms ++ l) (all_more noted ns) ∙ sym (append_assoc ms (all_notes noted) ns)
+
+-- a shift in an earlier round is one where another round follows
+in_earlier : (f : Base) (limit number r : ℕ) (noted : List (List Note)) (ns : List Note) (posts same : List (ℕ × Post)) (s : WorkerShift) → same ≡ posts
+    → IsShiftIn f limit number r noted posts s → IsShiftIn f limit number r (noted ++ ns ∷ []) same s
+in_earlier f limit number r noted ns posts same s p a = record {
+  notes = a.notes;
+  there = at_front noted (ns ∷ []) r (within noted r a.notes a.there) ∙ a.there;
   drawn = a.drawn;
-  part = e ∙ (ap (λ (ns : List Note). ns ++ more) a.part ∙ (append_assoc a.before (a.noted ++ a.later) more ∙ ap (λ (ns : List Note). a.before ++ ns) (append_assoc a.noted a.later more)));
-  shift = subst (λ (ps : List (ℕ × Post)). IsShift f number r limit a.noted ps a.drawn s) (sym p) a.shift;
+  shift = subst (λ (ps : List (ℕ × Post)). IsShift f number (r + 1) limit a.notes ps a.drawn s) (sym p) a.shift;
 }
 
 -- ---- rows
@@ -70,9 +73,12 @@ module _ (n b : ℕ) (shifts ss : List WorkerShift) (long : length shifts ≡ b 
         (AllPairs-append (λ (p q : ℕ × Post). p.1.round ≤ q.1.round) old posted d.rising
         (λ j k x less inside. let u = (each j x (omega arith)).1 in let w = (each k x inside).1 in omega arith)
         (λ x m. λ k y less. let u = (All-contains (λ (q : ℕ × Post). (1 ≤ q.1.round) × (q.1.round ≤ b)) old x d.range m).1 in let w = (each k y less).1 in omega arith));
+    noted = d.noted ++ noted ∷ [];
+    rounds = (let n = d.rounds in let long = length-append d.noted (noted ∷ []) in omega arith);
+    all = g ∙ (ap (λ (ns : List Note). ns ++ noted) d.all ∙ sym (all_more d.noted noted));
     each = λ r t at_t. ⊎_elim
-        (λ k. among_later f limit (i + 1) (r + 1) notes noted now (in_round (r + 1) old) (in_round (r + 1) new) t g (earlier r k.0) (d.each r t k.1))
-        (λ k. subst (λ (z : ℕ × WorkerShift). IsShiftAmong f limit (i + 1) (z.0 + 1) now (in_round (z.0 + 1) new) z.1) (λ j. (sym k.0 j, sym (is t k.1) j)) here)
+        (λ k. in_earlier f limit (i + 1) r d.noted noted (in_round (r + 1) old) (in_round (r + 1) new) t (earlier r k.0) (d.each r t k.1))
+        (λ k. subst (λ (z : ℕ × WorkerShift). IsShiftIn f limit (i + 1) z.0 (d.noted ++ noted ∷ []) (in_round (z.0 + 1) new) z.1) (λ j. (sym k.0 j, sym (is t k.1) j)) here)
         (placed i r t low at_t);
   }
     where
@@ -95,13 +101,11 @@ module _ (n b : ℕ) (shifts ss : List WorkerShift) (long : length shifts ≡ b 
           first : in_round (b + 1) old ≡ []
           first = filter-none (λ (q : ℕ × Post). q.1.round == b + 1) old (λ k x inside. let u = (d.range k x inside).1 in ne_eqb (get_or old k x).1.round (b + 1) (λ f. omega arith))
 
-      here : IsShiftAmong f limit (i + 1) (b + 1) now (in_round (b + 1) new) s
+      here : IsShiftIn f limit (i + 1) b (d.noted ++ noted ∷ []) (in_round (b + 1) new) s
       here = record {
-        before = notes;
-        noted = noted;
-        later = [];
+        notes = noted;
+        there = at_back d.noted (noted ∷ []) 0 b (let n = d.rounds in omega arith);
         drawn = drawn;
-        part = g ∙ ap (λ (ns : List Note). notes ++ ns) (sym (append-nil noted));
         shift = subst (λ (ps : List (ℕ × Post)). IsShift f (i + 1) (b + 1) limit noted ps drawn s) (sym latest) shift;
       }
 
@@ -121,9 +125,12 @@ played_start y limit n seats team are new = record {
   team = team;
   are_seats = are;
   count = sym (zero-mul n);
-  each = λ i v at. let e = new i v at in let l : length v.view.own.posts ≡ 0 = ap length e in record {
+  each = λ i v at. let e = new i v at in let l : length v.view.own.posts ≡ 0 = ap length e.posts in record {
     range = λ k x low. absurd (omega arith);
     rising = λ j k x less low. absurd (omega arith);
+    noted = [];
+    rounds = refl;
+    all = e.notes;
     each = λ r s at_s. absurd (none_some s at_s);
   };
   taken_once = λ r x. subst (λ (l : List WorkerShift). times_taken x l ≤ 1) (sym (row_past (r * n) n [] (omega arith))) (omega arith);
@@ -181,12 +188,15 @@ pub shifts_are : (y : YardView) (limit n rounds b : ℕ) (seats : List Sitting) 
 shifts_are y limit n rounds b seats shifts h shares p ends own workers = record {
   begun = b;
   count = p.count;
-  each = λ r w s low at.
+  each = λ w low.
       let v = some_at seats w (let t = p.team in omega arith) in let d = p.each w v.0 v.1 in record {
         share = v.0.view.own;
         there = (own w v.0 v.1).1;
         whose = (p.are_seats w v.0 v.1).own;
-        among = subst (λ (ps : List (ℕ × Post)). IsShiftAmong y.base limit (w + 1) (r + 1) v.0.view.own.notes ps s)
+        noted = d.noted;
+        rounds = d.rounds;
+        notes = d.all;
+        each = λ r s at. subst (λ (ps : List (ℕ × Post)). IsShiftIn y.base limit (w + 1) r d.noted ps s)
             (ap (in_round (r + 1)) (own w v.0 v.1).0 ∙ filter-filter (λ (q : ℕ × Post). q.1.round == r + 1) (λ (q : ℕ × Post). q.1.worker == w + 1) (enumerate_from 0 h))
             (d.each r s at);
       };

@@ -1,5 +1,5 @@
 -- Rounds: shifts of all workers, round by round.
-use Rattle.std.specs.Prelude.{◌≡◌, ◌≢◌, ◌⊎◌, ℕ, ◌+◌, ◌*◌, ◌<◌, ◌≤◌, ◌==◌, Option, Some, None, List, [], ◌++◌, take, drop, length, slice_get}
+use Rattle.std.specs.Prelude.{◌≡◌, ◌≢◌, ◌⊎◌, ℕ, ◌+◌, ◌*◌, ◌<◌, ◌≤◌, ◌==◌, Option, Some, None, List, [], take, drop, length, slice_get}
 use Rattle.std.specs.List.{count_by, flat_map, All, Contains}
 use Rattle.cp_logic.specs.declared.stop.Stop.{Stop}
 use Rattle.cp_logic.specs.Journals.{Post, posts_in_round}
@@ -26,21 +26,27 @@ NoneStopped shifts = All (λ s. s.stopped ≡ None) shifts
 abbrev pub OneStopped : List WorkerShift → Type 0
 OneStopped shifts = (w : ℕ) × (s : WorkerShift) × (stop : Stop) × (slice_get shifts w ≡ Some s) × (s.stopped ≡ Some stop)
 
--- the shift is what these posts and some of these notes, which stand together, come to: those of the worker's visits in the round
-pub record IsShiftAmong (f : Base) (limit number in_round : ℕ) (notes : List Note) (posts : List (ℕ × Post)) (s : WorkerShift) : Type 0 where
-  pub before : List Note
-  pub noted : List Note
-  pub later : List Note
-  pub drawn : List ℕ
-  pub part : notes ≡ before ++ (noted ++ later)
-  pub shift : IsShift f number in_round limit noted posts drawn s
+-- the notes of rounds, one round after the other
+abbrev pub all_notes : List (List Note) → List Note
+all_notes noted = flat_map (λ ns. ns) noted
 
--- the shift of the worker in the round: its posts are just the journal's there, and its notes stand in the share of the worker's number
-pub record IsShiftOf (f : Base) (limit : ℕ) (h : List Post) (shares : List Share) (number in_round : ℕ) (s : WorkerShift) : Type 0 where
+-- the shift is what these posts and, of the notes by round, those of round r, counted from 0, come to
+pub record IsShiftIn (f : Base) (limit number r : ℕ) (noted : List (List Note)) (posts : List (ℕ × Post)) (s : WorkerShift) : Type 0 where
+  pub notes : List Note
+  pub there : slice_get noted r ≡ Some notes
+  pub drawn : List ℕ
+  pub shift : IsShift f number (r + 1) limit notes posts drawn s
+
+-- The shifts of the worker of this number in so many rounds: at r stands that of round r, counted from 0. The notes of the number's share are those
+-- of the rounds, one round after the other, and no others; each shift is over its round's notes, and its posts are just the journal's there.
+pub record AreShiftsOf (f : Base) (limit : ℕ) (h : List Post) (shares : List Share) (number begun : ℕ) (at : ℕ → Option WorkerShift) : Type 0 where
   pub share : Share
   pub there : Contains shares share
   pub whose : share.number ≡ number
-  pub among : IsShiftAmong f limit number in_round share.notes (posts_in_round h number in_round) s
+  pub noted : List (List Note)
+  pub rounds : length noted ≡ begun
+  pub notes : share.notes ≡ all_notes noted
+  pub each : (r : ℕ) (s : WorkerShift) → at r ≡ Some s → IsShiftIn f limit number r noted (posts_in_round h number (r + 1)) s
 
 -- of the rounds asked for all began, unless a shift stopped, after whose round none began
 pub record EndsAt (workers rounds begun : ℕ) (shifts : List WorkerShift) : Type 0 where
@@ -53,7 +59,7 @@ pub record EndsAt (workers rounds begun : ℕ) (shifts : List WorkerShift) : Typ
 pub record AreShifts (f : Base) (workers rounds limit : ℕ) (h : List Post) (shares : List Share) (shifts : List WorkerShift) : Type 0 where
   pub begun : ℕ
   pub count : length shifts ≡ begun * workers
-  pub each : (r w : ℕ) (s : WorkerShift) → w < workers → shift_at workers r w shifts ≡ Some s → IsShiftOf f limit h shares (w + 1) (r + 1) s
+  pub each : (w : ℕ) → w < workers → AreShiftsOf f limit h shares (w + 1) begun (λ r. shift_at workers r w shifts)
   pub ends : EndsAt workers rounds begun shifts
   pub taken_once : (r x : ℕ) → times_taken x (of_round workers r shifts) ≤ 1
   pub taken_all : (r x : ℕ) → r < begun → NoneStopped (of_round workers r shifts) → 1 ≤ x → x ≤ f.formula.variables → times_taken x (of_round workers r shifts) ≡ 1

@@ -12,7 +12,7 @@ use Rattle.cp_claim.specs.Views as claims
 use Rattle.cp_worker.specs.declared.lists.WorkerShift.{WorkerShift}
 use Rattle.cp_worker.specs.Shifts.{candidates_of, IsShift}
 use Rattle.cp_phase.specs.declared.team.Member.{Member}
-use Rattle.cp_phase.specs.Rounds.{of_round, shift_at, times_taken, NoneStopped, IsShiftAmong}
+use Rattle.cp_phase.specs.Rounds.{of_round, shift_at, times_taken, NoneStopped, all_notes, IsShiftIn}
 
 -- ---- seats
 
@@ -29,9 +29,13 @@ pub record IsSeatOf (y : YardView) (i : ℕ) (s : Sitting) : Type 0 where
 abbrev pub AreSeats : YardView → List Sitting → Type 0
 AreSeats y seats = (i : ℕ) (s : Sitting) → slice_get seats i ≡ Some s → IsSeatOf y i s
 
--- they have posted nothing
+-- the seat has posted nothing and met nothing
+pub record IsNew (s : Sitting) : Type 0 where
+  pub posts : s.view.own.posts ≡ []
+  pub notes : s.view.own.notes ≡ []
+
 abbrev pub AreNew : List Sitting → Type 0
-AreNew seats = (i : ℕ) (s : Sitting) → slice_get seats i ≡ Some s → s.view.own.posts ≡ []
+AreNew seats = (i : ℕ) (s : Sitting) → slice_get seats i ≡ Some s → IsNew s
 
 -- the seat after it took these in, in order
 abbrev pub joined_all : SeatView → List Sitting → SeatView
@@ -107,12 +111,15 @@ pub record IsRound (y : YardView) (limit in_round : ℕ) (olds news : List Sitti
 abbrev pub in_round : ℕ → List (ℕ × Post) → List (ℕ × Post)
 in_round r posts = filter (λ q. q.1.round == r) posts
 
--- the posts and notes of worker i, counted from 0, in so many rounds of so many workers: the posts' rounds don't fall, and its shifts are
--- what those of each round, and some of the notes, come to
+-- the posts and notes of worker i, counted from 0, in so many rounds of so many workers: the posts' rounds don't fall, the notes are those of the
+-- rounds, one round after the other, and its shifts are what those of each round come to
 pub record AreDone (f : Base) (limit workers i begun : ℕ) (shifts : List WorkerShift) (notes : List Note) (posts : List (ℕ × Post)) : Type 0 where
   pub range : All (λ q. (1 ≤ q.1.round) × (q.1.round ≤ begun)) posts
   pub rising : AllPairs (λ p q. p.1.round ≤ q.1.round) posts
-  pub each : (r : ℕ) (s : WorkerShift) → shift_at workers r i shifts ≡ Some s → IsShiftAmong f limit (i + 1) (r + 1) notes (in_round (r + 1) posts) s
+  pub noted : List (List Note)
+  pub rounds : length noted ≡ begun
+  pub all : notes ≡ all_notes noted
+  pub each : (r : ℕ) (s : WorkerShift) → shift_at workers r i shifts ≡ Some s → IsShiftIn f limit (i + 1) r noted (in_round (r + 1) posts) s
 
 -- the seats of so many workers after so many rounds, and the shifts of these
 pub record ArePlayed (y : YardView) (limit workers begun : ℕ) (seats : List Sitting) (shifts : List WorkerShift) : Type 0 where
