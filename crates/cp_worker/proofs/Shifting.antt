@@ -140,47 +140,47 @@ pub visits-more : (f : Base) (number in_round limit : ℕ) (noted more : List No
     → old.stopped ≡ None → IsShift f number in_round limit noted posted drawn old → IsVisit f number (n + 1) in_round limit more posts answer → IsListing (n + 1) answer old new
     → IsShift f number in_round limit (noted ++ more) (posted ++ posts) (drawn ++ n ∷ []) new
 visits-more f number in_round limit noted more posted posts drawn n answer old new unstopped s v l =
-  let see = seen f number (n + 1) in_round limit more posts answer v in
-  let one : Visited = record { at = n + 1; answer = answer; noted = more; posted = posts } in
-  let Fits : Visited → Type 0 = λ w. IsVisit f number w.at in_round limit w.noted w.posted w.answer in
-  record {
-  worker = l.worker ∙ s.worker;
-  round = l.round ∙ s.round;
-  taken = l.taken ∙ ap (λ (xs : List ℕ). xs ++ (n + 1) ∷ []) s.taken ∙ sym (map-append (λ k. k + 1) drawn (n ∷ []));
-  visits = s.visits ++ one ∷ [];
-  each = All-append Fits s.visits (one ∷ []) s.each (All-cons Fits one [] v (All-nil Fits));
-  visited = l.taken ∙ ap (λ (xs : List ℕ). xs ++ (n + 1) ∷ []) s.visited ∙ sym (map-append (λ (w : Visited). w.at) s.visits (one ∷ []));
-  notes = ap (λ (ns : List Note). ns ++ more) s.notes ∙ all_more (λ w. w.noted) s.visits one;
-  posted_are = ap (λ (ps : List (ℕ × Post)). ps ++ posts) s.posted_are ∙ all_more (λ w. w.posted) s.visits one;
-  busy_are = l.busy ∙ ap (λ (bs : List BusyAt). bs ++ busy_of (n + 1) answer) s.busy_are ∙ all_more (λ w. busy_of w.at w.answer) s.visits one;
-  late_are = l.late ∙ ap (λ (bs : List LateAt). bs ++ late_of (n + 1) answer) s.late_are ∙ all_more (λ w. late_of w.at w.answer) s.visits one;
-  wide_are = l.wide ∙ ap (λ (bs : List WideAt). bs ++ wide_of (n + 1) answer) s.wide_are ∙ all_more (λ w. wide_of w.at w.answer) s.visits one;
-  commits = l.commits ∙ ap (λ (ns : List ℕ). ns ++ commits_of answer) s.commits ∙ ap (λ (ns : List ℕ). positions posted ++ ns) (commits_are f number (n + 1) in_round limit more posts answer v)
-      ∙ sym (map-append (λ (q : ℕ × Post). q.0) posted posts);
-  posts = All-append (IsPostOf number in_round) posted posts s.posts (posts_are f number (n + 1) in_round limit more posts answer v);
-  busy = All-same (IsBusy (noted ++ more)) new.busy.items (old.busy.items ++ busy_of (n + 1) answer) l.busy
-      (All-append (IsBusy (noted ++ more)) old.busy.items (busy_of (n + 1) answer)
-      (All-weaker (IsBusy noted) (IsBusy (noted ++ more)) (λ b i. Contains-append_left noted more (Met b.var b.by) i) old.busy.items s.busy)
-      (busy_here f number (n + 1) in_round limit noted more posted posts answer see));
-  late = All-same (IsLate (noted ++ more)) new.late.items (old.late.items ++ late_of (n + 1) answer) l.late
-      (All-append (IsLate (noted ++ more)) old.late.items (late_of (n + 1) answer)
-      (All-weaker (IsLate noted) (IsLate (noted ++ more)) (λ b i. Contains-append_left noted more (MetTurn b.by) i) old.late.items s.late)
-      (late_here f number (n + 1) in_round limit noted more posted posts answer see));
-  wide = All-same (IsWide limit (noted ++ more)) new.wide.items (old.wide.items ++ wide_of (n + 1) answer) l.wide
-      (All-append (IsWide limit (noted ++ more)) old.wide.items (wide_of (n + 1) answer)
-      (All-weaker (IsWide limit noted) (IsWide limit (noted ++ more)) (λ w h. (h.0, Contains-append_left noted more (Got w.at h.0) h.1, h.2, h.3)) old.wide.items s.wide)
-      (wide_here f number (n + 1) in_round limit noted more posted posts answer see));
-  accounted = λ x i. elim (Contains-push_cases old.taken.items (n + 1) x (subst (λ (xs : List ℕ). Contains xs x) l.taken i)) [
-    | inl j ↦ elim (s.accounted x j) [
-      | inl a ↦ inl (account_later f number (n + 1) in_round limit noted more posted posts answer old new x l a)
-      | inr e ↦ absurd (none_some old.stopped e.1.0 unstopped e.1.1)
-    ]
-    | inr e ↦ subst (λ z. IsAccounted f (noted ++ more) (posted ++ posts) new z ⊎ (IsLast z new.taken.items × ((stop : Stop) × (new.stopped ≡ Some stop)))) e
-        (account_here f number (n + 1) in_round limit noted more posted posts answer old new see l)
-  ];
-  stopped = λ stop e. subst (λ (xs : List ℕ). IsStopped f (noted ++ more) (posted ++ posts) xs stop) (sym l.taken)
-      (stopped_here f number (n + 1) in_round limit noted more posted posts answer stop old.taken.items old.stopped new.stopped see unstopped l.stopped e);
-}
+    let see = seen f number (n + 1) in_round limit more posts answer v in
+    let one : Visited = record { at = n + 1; answer = answer; noted = more; posted = posts } in
+    let Fits : Visited → Type 0 = λ w. IsVisit f number w.at in_round limit w.noted w.posted w.answer in
+    record {
+      worker = l.worker ∙ s.worker;
+      round = l.round ∙ s.round;
+      taken = l.taken ∙ ap (λ (xs : List ℕ). xs ++ (n + 1) ∷ []) s.taken ∙ sym (map-append (λ k. k + 1) drawn (n ∷ []));
+      visits = s.visits ++ one ∷ [];
+      each = All-append Fits s.visits (one ∷ []) s.each (All-cons Fits one [] v (All-nil Fits));
+      visited = l.taken ∙ ap (λ (xs : List ℕ). xs ++ (n + 1) ∷ []) s.visited ∙ sym (map-append (λ (w : Visited). w.at) s.visits (one ∷ []));
+      notes = ap (λ (ns : List Note). ns ++ more) s.notes ∙ all_more (λ w. w.noted) s.visits one;
+      posted_are = ap (λ (ps : List (ℕ × Post)). ps ++ posts) s.posted_are ∙ all_more (λ w. w.posted) s.visits one;
+      busy_are = l.busy ∙ ap (λ (bs : List BusyAt). bs ++ busy_of (n + 1) answer) s.busy_are ∙ all_more (λ w. busy_of w.at w.answer) s.visits one;
+      late_are = l.late ∙ ap (λ (bs : List LateAt). bs ++ late_of (n + 1) answer) s.late_are ∙ all_more (λ w. late_of w.at w.answer) s.visits one;
+      wide_are = l.wide ∙ ap (λ (bs : List WideAt). bs ++ wide_of (n + 1) answer) s.wide_are ∙ all_more (λ w. wide_of w.at w.answer) s.visits one;
+      commits = l.commits ∙ ap (λ (ns : List ℕ). ns ++ commits_of answer) s.commits ∙ ap (λ (ns : List ℕ). positions posted ++ ns) (commits_are f number (n + 1) in_round limit more posts answer v)
+          ∙ sym (map-append (λ (q : ℕ × Post). q.0) posted posts);
+      posts = All-append (IsPostOf number in_round) posted posts s.posts (posts_are f number (n + 1) in_round limit more posts answer v);
+      busy = All-same (IsBusy (noted ++ more)) new.busy.items (old.busy.items ++ busy_of (n + 1) answer) l.busy
+          (All-append (IsBusy (noted ++ more)) old.busy.items (busy_of (n + 1) answer)
+          (All-weaker (IsBusy noted) (IsBusy (noted ++ more)) (λ b i. Contains-append_left noted more (Met b.var b.by) i) old.busy.items s.busy)
+          (busy_here f number (n + 1) in_round limit noted more posted posts answer see));
+      late = All-same (IsLate (noted ++ more)) new.late.items (old.late.items ++ late_of (n + 1) answer) l.late
+          (All-append (IsLate (noted ++ more)) old.late.items (late_of (n + 1) answer)
+          (All-weaker (IsLate noted) (IsLate (noted ++ more)) (λ b i. Contains-append_left noted more (MetTurn b.by) i) old.late.items s.late)
+          (late_here f number (n + 1) in_round limit noted more posted posts answer see));
+      wide = All-same (IsWide limit (noted ++ more)) new.wide.items (old.wide.items ++ wide_of (n + 1) answer) l.wide
+          (All-append (IsWide limit (noted ++ more)) old.wide.items (wide_of (n + 1) answer)
+          (All-weaker (IsWide limit noted) (IsWide limit (noted ++ more)) (λ w h. (h.0, Contains-append_left noted more (Got w.at h.0) h.1, h.2, h.3)) old.wide.items s.wide)
+          (wide_here f number (n + 1) in_round limit noted more posted posts answer see));
+      accounted = λ x i. elim (Contains-push_cases old.taken.items (n + 1) x (subst (λ (xs : List ℕ). Contains xs x) l.taken i)) [
+        | inl j ↦ elim (s.accounted x j) [
+          | inl a ↦ inl (account_later f number (n + 1) in_round limit noted more posted posts answer old new x l a)
+          | inr e ↦ absurd (none_some old.stopped e.1.0 unstopped e.1.1)
+        ]
+        | inr e ↦ subst (λ z. IsAccounted f (noted ++ more) (posted ++ posts) new z ⊎ (IsLast z new.taken.items × ((stop : Stop) × (new.stopped ≡ Some stop)))) e
+            (account_here f number (n + 1) in_round limit noted more posted posts answer old new see l)
+      ];
+      stopped = λ stop e. subst (λ (xs : List ℕ). IsStopped f (noted ++ more) (posted ++ posts) xs stop) (sym l.taken)
+          (stopped_here f number (n + 1) in_round limit noted more posted posts answer stop old.taken.items old.stopped new.stopped see unstopped l.stopped e);
+    }
 
 -- a shift under way: what was noted, posted and drawn, and what is listed of it
 pub record IsGoing (v w : SeatView) (first now : List ℕ) (in_round limit : ℕ) (s : WorkerShift) : Type 0 where
