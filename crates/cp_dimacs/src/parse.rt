@@ -18,7 +18,7 @@ use crate::header_line::Header;
 use crate::refusal::{CnfRefusal, InputKind};
 use cp_io::{Limit, Limits};
 use cp_logic::Formula;
-use cp_text::{Item, next_seen, skip_line, within};
+use cp_text::{Item, LineStop, next_seen, skip_line, within};
 use std::alloc::Global;
 
 /// A formula, and whether a line ended the input.
@@ -82,27 +82,22 @@ fn find_header<'a>(text: &'a [u8], cut: bool, limits: &Limits) -> Result<Header<
     let mut rest = text;
     let mut at = 0;
     'lines: loop {
-        match next_seen(rest, at, cut) {
-            Item::Word { word, .. } => {
-                if word[0] != b'c' {
-                    return read_header(rest, at, cut, limits);
-                }
-                let stop = skip_line(rest, at);
-                let Some(after) = stop.rest else {
-                    return Err(no_header(stop.at));
-                };
-                at = stop.at + 1;
-                rest = after;
+        let stop = match next_seen(rest, at, cut) {
+            Item::Word { word, .. } if word[0] != b'c' => {
+                return read_header(rest, at, cut, limits);
             }
-            Item::LineEnd {
-                at: end,
-                rest: after,
-            } => {
-                at = end + 1;
-                rest = after;
-            }
-            Item::End { at: end } => return Err(no_header(end)),
-        }
+            Item::Word { .. } => skip_line(rest, at),
+            Item::LineEnd { at, rest } => LineStop {
+                at,
+                rest: Some(rest),
+            },
+            Item::End { at } => LineStop { at, rest: None },
+        };
+        let Some(after) = stop.rest else {
+            return Err(no_header(stop.at));
+        };
+        at = stop.at + 1;
+        rest = after;
     }
 }
 
