@@ -16,7 +16,8 @@ use Rattle.cp_dimacs.specs.declared.refusal.InputKind.TheVariants.{OpenClause}
 use Rattle.cp_dimacs.specs.Written.{formula_of}
 use Rattle.cp_text.specs.Cut.{whole_words}
 use Rattle.cp_logic.specs.Signs.{signed}
-use Rattle.cp_dimacs.specs.Grammar.{◌>>=◌, number_at, is_comment, header, body, clauses_from, clauses_in, document, stands_before, judged, reads}
+use Rattle.cp_text.specs.Results.{◌>>=◌}
+use Rattle.cp_dimacs.specs.Grammar.{number_at, is_comment, header, body, clauses_from, clauses_in, document, stands_before, judged, reads}
 
 -- ---- the bytes
 

@@ -21,7 +21,8 @@ use Rattle.cp_logic.proofs.SortedClauses.{ascending-clause_of}
 use Rattle.cp_dimacs.specs.Cnf.{cnf_text}
 use Rattle.cp_dimacs.specs.Written.{formula_of, greatest_of, greatest_in}
 use Rattle.cp_text.specs.Text.{Word, Line, begins_with, lines_from}
-use Rattle.cp_dimacs.specs.Grammar.{◌>>=◌, Body, body, header, clauses_from, document, judged, reads}
+use Rattle.cp_text.specs.Results.{◌>>=◌}
+use Rattle.cp_dimacs.specs.Grammar.{Body, body, header, clauses_from, document, judged, reads}
 use Rattle.cp_dimacs.specs.declared.refusal.CnfRefusal.{CnfRefusal}
 use Rattle.cp_dimacs.specs.Laws.{as_printed, ReadsPrinted}
 use Rattle.cp_text.proofs.Printed.{AreWords, AreLines, literal_word, literal-is_word, decimal-is_word, decimal-all_digits, number_of-literal_word, number_of-decimal, lines_text, laid, placed, placed_after, line_end, lines_from-printed}

@@ -15,11 +15,13 @@ use Rattle.cp_dimacs.specs.declared.parse.Found.{Found}
 use Rattle.cp_dimacs.specs.declared.refusal.CnfRefusal.{CnfRefusal}
 use Rattle.cp_dimacs.specs.declared.refusal.CnfRefusal.TheVariants.{BadInput, TooLarge, NoMemory}
 use Rattle.cp_dimacs.specs.Written.{greatest_of, greatest_in, formula_of, with_clauses}
-use Rattle.cp_dimacs.specs.Grammar.{◌>>=◌, body, clauses_from, document, judged, reads}
+use Rattle.cp_text.specs.Results.{◌>>=◌}
+use Rattle.cp_dimacs.specs.Grammar.{body, clauses_from, document, judged, reads}
 use Rattle.cp_dimacs.specs.Lines.{resume_lines}
 use Rattle.cp_dimacs.specs.Document.{document_of, AnswersDocument, AnswersJudge, formula_in}
 use Rattle.cp_dimacs.specs.Reads.{AnswersCnf, IsRead}
-use Rattle.cp_dimacs.specs.Reader.{ReaderState, Finishes}
+use Rattle.cp_io.specs.Feeding.{ReaderState}
+use Rattle.cp_dimacs.specs.Reader.{Finishes}
 use Rattle.cp_dimacs.proofs.Few.{reads-within, reads-few}
 use Rattle.std.specs.Prelude.{IfOk}
 

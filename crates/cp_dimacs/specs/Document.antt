@@ -10,7 +10,8 @@ use Rattle.cp_dimacs.specs.declared.refusal.CnfRefusal.{CnfRefusal}
 use Rattle.cp_dimacs.specs.declared.refusal.CnfRefusal.TheVariants.{NoMemory}
 use Rattle.cp_dimacs.specs.Written.{formula_of}
 use Rattle.cp_logic.specs.Slots.{Held}
-use Rattle.cp_dimacs.specs.Grammar.{◌>>=◌, clauses_in, document, judged}
+use Rattle.cp_text.specs.Results.{◌>>=◌}
+use Rattle.cp_dimacs.specs.Grammar.{clauses_in, document, judged}
 use Rattle.cp_text.specs.Stops.{lines_behind, StopsWithin}
 
 -- the document of a header that names so many variables and of the lines behind it

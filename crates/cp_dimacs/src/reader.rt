@@ -6,7 +6,8 @@ ghost use Rattle.std.specs.Prelude.{◌≡◌, [], true, false, Err, IfOk};
 ghost use Rattle.cp_dimacs.specs.declared.refusal.CnfRefusal.TheVariants.{NoMemory};
 ghost use Rattle.cp_io.specs.Limits.{IsWithinStandard};
 ghost use Rattle.cp_dimacs.specs.Reads.{AnswersCnf, IsRead};
-ghost use Rattle.cp_dimacs.specs.Reader.{ReaderState, Feeds, KeepsFed, Finishes};
+ghost use Rattle.cp_io.specs.Feeding.{ReaderState, Feeds, KeepsFed};
+ghost use Rattle.cp_dimacs.specs.Reader.{Finishes};
 
 use crate::parse::parse_cnf;
 use crate::refusal::CnfRefusal;
@@ -52,7 +53,7 @@ impl CnfReader {
 
     /// Takes the next bytes of the input, and asks for more. `NoMemory` is its only refusal.
     pub fn feed(&mut self, bytes: &[u8]) -> Result<Feed, CnfRefusal>
-        ensures feeds { Feeds self.old bytes.now result self.new }
+        ensures feeds { Feeds NoMemory self.old bytes.now result self.new }
         ensures fed { KeepsFed self.old bytes.now result self.new }
     {
         if self.refused {

@@ -9,7 +9,7 @@ use Rattle.cp_extend.specs.declared.refusal.ModelRefusal.{ModelRefusal}
 use Rattle.cp_extend.specs.declared.refusal.ModelRefusal.TheVariants.{BadModel, NoModel, TooLarge, NoMemory}
 use Rattle.cp_extend.specs.declared.refusal.Stop.{Stop}
 use Rattle.cp_extend.specs.Grammar.{Given, is_value, values_of, nothing_read, document, answer, model_reads}
-use Rattle.cp_extend.specs.Reads.{ReaderState, AnswersModel, Finishes}
+use Rattle.cp_extend.specs.Reads.{ModelReaderState, AnswersModel, Finishes}
 
 answer-length : (limits : Limits) (variables : ℕ) (past : Bool) (found : Result Given Stop) (values : List Bool) → answer limits variables past found ≡ Ok values → length values ≡ variables
 answer-length limits variables past (Ok given) values is =
@@ -35,7 +35,7 @@ answers-all limits variables kept all (Err NoModel) is h = sym (ap (model_reads 
 answers-all limits variables kept all (Err (BadModel at kind)) is h = sym (ap (model_reads limits variables) is ∙ reads-kept limits variables all) ∙ h
 answers-all limits variables kept all (Err (TooLarge which at)) is h = sym (ap (model_reads limits variables) is ∙ reads-kept limits variables all) ∙ h
 
-pub finishes : (limits : Limits) (kept : List ℕ) (refused : Bool) (model : List Bool) (r : ReaderState) (bytes : List ℕ) (result : Result (List Bool) ModelRefusal)
-    → (let s : ReaderState = record { limits = limits; variables = length model; bytes = kept; refused = refused } in s) ≡ r → bytes ≡ kept → AnswersModel limits (length model) bytes result → Finishes r result
+pub finishes : (limits : Limits) (kept : List ℕ) (refused : Bool) (model : List Bool) (r : ModelReaderState) (bytes : List ℕ) (result : Result (List Bool) ModelRefusal)
+    → (let s : ModelReaderState = record { variables = length model; fed = record { limits = limits; bytes = kept; refused = refused } } in s) ≡ r → bytes ≡ kept → AnswersModel limits (length model) bytes result → Finishes r result
 finishes limits kept refused model r bytes result view is answer =
-    subst (λ (s : ReaderState). Finishes s result) view (λ all fed. answers-all limits (length model) bytes all result (is ∙ fed) answer)
+    subst (λ (s : ModelReaderState). Finishes s result) view (λ all fed. answers-all limits (length model) bytes all result (is ∙ fed) answer)

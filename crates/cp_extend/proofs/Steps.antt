@@ -16,7 +16,8 @@ use Rattle.cp_extend.specs.declared.refusal.ModelKind.TheVariants.{BadWord, BadS
 use Rattle.cp_extend.specs.declared.refusal.ModelRefusal.TheVariants.{TooLarge}
 use Rattle.cp_extend.specs.declared.refusal.Stop.{Stop}
 use Rattle.cp_text.specs.declared.lines.LineStop.{LineStop}
-use Rattle.cp_extend.specs.Grammar.{◌>>=◌, Given, Reading, fault, unended, value_words, status_words, document}
+use Rattle.cp_text.specs.Results.{◌>>=◌}
+use Rattle.cp_extend.specs.Grammar.{Given, Reading, fault, unended, value_words, status_words, document}
 use Rattle.cp_extend.specs.Steps.{TakesWord, GoesOn, ReadsLines, SaysModel, EndsStatus, in_values, in_status, behind_line}
 
 -- ---- words of a value line

@@ -1,6 +1,6 @@
 -- What a text reads as a model of so many variables: their values, or the first fault. The lines are those that the SAT
 -- competitions ask of a solver: comments, a status line, and value lines up to a 0.
-use Rattle.std.specs.Prelude.{ℕ, ◌+◌, List, [], ◌∷◌, length, map, codes, Bool, true, false, ◌&&◌, ◌||◌, ◌==◌, nat_lt, nat_le, not, if◌then◌else◌, Option, Some, None, Result, Ok, Err}
+use Rattle.std.specs.Prelude.{ℕ, ◌+◌, List, [], ◌∷◌, length, map, codes, Bool, true, false, ◌&&◌, ◌||◌, ◌==◌, nat_lt, nat_le, not, if◌then◌else◌, Option, Some, None, ok_or, Result, Ok, Err}
 use Rattle.std.specs.List.{range_with_len}
 use Rattle.std.specs.Str.{bytes_eq}
 use Rattle.cp_io.specs.declared.limits.Limits.{Limits}
@@ -8,6 +8,7 @@ use Rattle.cp_io.specs.declared.limits.Limit.TheVariants.{Variables, Bytes}
 use Rattle.cp_text.specs.Text.{Word, Line, begins_with}
 use Rattle.cp_text.specs.Numbers.{NumberWord, number_of}
 use Rattle.cp_text.specs.Cut.{lines_within}
+use Rattle.cp_text.specs.Results.{◌>>=◌}
 use Rattle.cp_extend.specs.declared.refusal.ModelKind.{ModelKind}
 use Rattle.cp_extend.specs.declared.refusal.ModelKind.TheVariants.{BadWord, BadStatus, Contradiction, NoEnd}
 use Rattle.cp_extend.specs.declared.refusal.ModelRefusal.{ModelRefusal}
@@ -20,11 +21,6 @@ fault at kind = record { at = at; refusal = BadModel at kind }
 
 abbrev pub bad : {A : Type 0} → ℕ → ModelKind → Result A Stop
 bad at kind = Err (fault at kind)
-
-infixl 10 ◌>>=◌
-abbrev pub ◌>>=◌ : {A B : Type 0} → Result A Stop → (A → Result B Stop) → Result B Stop
-(Ok x) >>= f = f x
-(Err stop) >>= f = Err stop
 
 -- ---- values
 
@@ -69,11 +65,7 @@ with_given r literal = record r { given = with_literal r.given literal }
 
 -- the number that a word says, or that the word is bad
 abbrev pub number_at : Word → Result NumberWord Stop
-number_at w = found (number_of w.bytes)
-  where
-    found : Option NumberWord → Result NumberWord Stop
-    found None = bad w.at BadWord
-    found (Some n) = Ok n
+number_at w = ok_or (number_of w.bytes) (fault w.at BadWord)
 
 -- The words behind the `v` of a value line: what is read with them, and whether a 0 was met. What is behind the 0 isn't looked at.
 abbrev pub value_words : Limits → Reading → List Word → Result (Reading × Bool) Stop

@@ -12,7 +12,8 @@ use Rattle.cp_extend.specs.declared.refusal.ModelKind.TheVariants.{BadStatus, No
 use Rattle.cp_extend.specs.declared.refusal.ModelRefusal.TheVariants.{NoMemory}
 use Rattle.cp_extend.specs.declared.refusal.Stop.{Stop}
 use Rattle.std.specs.declared.alloc.AllocError.{AllocError}
-use Rattle.cp_extend.specs.Grammar.{Given, Reading, ◌>>=◌, bad, fault, with_given, contradicts, value_words, status_words, names_no_model, document}
+use Rattle.cp_text.specs.Results.{◌>>=◌}
+use Rattle.cp_extend.specs.Grammar.{Given, Reading, bad, fault, with_given, contradicts, value_words, status_words, names_no_model, document}
 
 -- The literal is given, or its negation was given.
 abbrev pub GivesLiteral : Reading → NumberWord → Result Bool AllocError → Reading → Type 0

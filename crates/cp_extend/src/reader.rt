@@ -9,7 +9,8 @@
 ghost use Rattle.std.specs.Prelude.{◌≡◌, ◌≢◌, ◌≤◌, [], false, true, length, IfOk};
 ghost use Rattle.cp_extend.specs.declared.refusal.ModelRefusal.TheVariants.{NoMemory};
 ghost use Rattle.cp_extend.specs.Grammar.{told};
-ghost use Rattle.cp_extend.specs.Reads.{AnswersModel, AnswersInto, Feeds, Finishes};
+ghost use Rattle.cp_io.specs.Feeding.{Feeds};
+ghost use Rattle.cp_extend.specs.Reads.{AnswersModel, AnswersInto, Finishes};
 
 use crate::parsing::take_lines;
 use crate::progress::Progress;
@@ -85,11 +86,11 @@ pub struct ModelReader {
 
 impl Model for ModelReader {
     ghost use Rattle.std.specs.Prelude.{length, ◌≡◌, ◌≤◌};
-    ghost use Rattle.cp_extend.specs.Reads.{ReaderState};
+    ghost use Rattle.cp_extend.specs.Reads.{ModelReaderState};
 
-    ghost Value = { ReaderState };
+    ghost Value = { ModelReaderState };
 
-    ghost view = { λ r. record { limits = r.limits; variables = length r.model; bytes = r.collected.bytes; refused = r.refused } };
+    ghost view = { λ r. record { variables = length r.model; fed = record { limits = r.limits; bytes = r.collected.bytes; refused = r.refused } } };
 
     ghost invariant = { λ r. (r.collected.limit ≡ r.limits.bytes) × (length r.model ≤ 2000000) };
 }
@@ -98,7 +99,7 @@ impl ModelReader {
     /// A reader of a model of the variables 1 to `vars`. It is refused only for want of memory.
     pub fn new(alloc: Global, vars: u32, limits: Limits) -> Result<ModelReader, AllocError>
         requires { vars ≤ 2000000 }
-        ensures { IfOk result (λ reader. reader ≡ record { limits = limits; variables = vars; bytes = []; refused = false }) }
+        ensures { IfOk result (λ reader. reader ≡ record { variables = vars; fed = record { limits = limits; bytes = []; refused = false } }) }
     {
         Ok(ModelReader {
             alloc,
@@ -111,7 +112,8 @@ impl ModelReader {
 
     /// Takes the next bytes of the text, and asks for more. `NoMemory` is its only refusal, and each call behind it answers it again.
     pub fn feed(&mut self, bytes: &[u8]) -> Result<Feed, ModelRefusal>
-        ensures { Feeds self.old bytes.now result self.new }
+        ensures feeds { Feeds NoMemory self.old.fed bytes.now result self.new.fed }
+        ensures variables { self.new.variables ≡ self.old.variables }
     {
         if self.refused {
             return Err(ModelRefusal::NoMemory);
@@ -125,8 +127,8 @@ impl ModelReader {
 
     /// The model that all bytes fed read as, or their first fault, as `parse_model` says.
     pub fn finish(self) -> Result<Assignment, ModelRefusal>
-        ensures refused { self.refused ≡ true → result ≡ Err NoMemory }
-        ensures answer { AnswersModel self.limits self.variables self.bytes result }
+        ensures refused { self.fed.refused ≡ true → result ≡ Err NoMemory }
+        ensures answer { AnswersModel self.fed.limits self.variables self.fed.bytes result }
         ensures fed { Finishes self result }
     {
         if self.refused {

@@ -17,7 +17,8 @@ use Rattle.cp_logic.proofs.SetFacts.{of_clause_of, in_clause_of, IsAscending-cla
 use Rattle.cp_stack.specs.Text.{stack_text, header_text, pair_text, literal_part}
 use Rattle.cp_text.specs.Cut.{lines_within}
 use Rattle.cp_text.specs.Text.{Word, Line, lines_from}
-use Rattle.cp_stack.specs.Grammar.{◌>>=◌, from_words, header, pairs_in, pair_with, with_pair, words_of, stack_reads}
+use Rattle.cp_text.specs.Results.{◌>>=◌}
+use Rattle.cp_stack.specs.Grammar.{from_words, header, pairs_in, pair_with, with_pair, words_of, stack_reads}
 use Rattle.cp_stack.specs.declared.refusal.StackRefusal.{StackRefusal}
 use Rattle.cp_stack.specs.Laws.{IsPair, ReadsPrinted}
 use Rattle.cp_text.proofs.Cuts.{sees-all}

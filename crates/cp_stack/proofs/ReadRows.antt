@@ -11,9 +11,7 @@ use Rattle.cp_text.specs.Cut.{lines_within}
 use Rattle.cp_stack.specs.declared.refusal.StackKind.TheVariants.{BadHeader, BadWord, TooGreat, EmptyPair, OpenPair, Count}
 use Rattle.cp_stack.specs.declared.refusal.StackRefusal.TheVariants.{BadStack, TooLarge}
 use Rattle.cp_stack.specs.Grammar.{Stack, stack_reads}
-
-abbrev pub pair : ℕ → List ℕ → Pair
-pair literal clause = record { literal = literal; clause = clause }
+use Rattle.cp_stack.proofs.Rows.{pair}
 
 abbrev pub stack : ℕ → List Pair → Stack
 stack variables pairs = record { variables = variables; pairs = pairs }

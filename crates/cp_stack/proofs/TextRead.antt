@@ -8,7 +8,8 @@ use Rattle.cp_text.proofs.Cuts.{sees-within}
 use Rattle.cp_stack.specs.declared.refusal.StackRefusal.{StackRefusal}
 use Rattle.cp_stack.specs.Grammar.{Stack, document, cut_at, stack_reads}
 use Rattle.cp_stack.specs.Reads.{Gives, AnswersStack}
-use Rattle.cp_stack.specs.Reader.{ReaderState, Finishes}
+use Rattle.cp_io.specs.Feeding.{ReaderState}
+use Rattle.cp_stack.specs.Reader.{Finishes}
 
 pub reads-past : (limits : Limits) (bytes : List ℕ) (lines : List Line) → ltb limits.bytes (length bytes) ≡ true → lines_within limits.bytes bytes ≡ lines → cut_at limits.bytes (document limits lines) ≡ stack_reads limits bytes
 unfolding stack_reads

@@ -9,7 +9,8 @@ use Rattle.cp_text.specs.Text.{Line}
 use Rattle.cp_text.specs.Cut.{lines_within}
 use Rattle.cp_stack.specs.declared.refusal.StackRefusal.{StackRefusal}
 use Rattle.cp_stack.specs.declared.refusal.StackRefusal.TheVariants.{TooLarge}
-use Rattle.cp_stack.specs.Grammar.{◌>>=◌, Stack, Counted, Header, counted, variables_in, number_of_pairs, no_word, named, header, from_words, pairs_in, words_of, end_of, document, place_of, cut_at, stack_reads}
+use Rattle.cp_text.specs.Results.{◌>>=◌}
+use Rattle.cp_stack.specs.Grammar.{Stack, Counted, Header, counted, variables_in, number_of_pairs, no_word, named, header, from_words, pairs_in, words_of, end_of, document, place_of, cut_at, stack_reads}
 use Rattle.cp_stack.specs.Reads.{stack_of, AnswersStack}
 
 -- a step that comes to a value began with one

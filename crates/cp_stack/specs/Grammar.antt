@@ -2,7 +2,7 @@
 --
 -- The first line with words is `p stack 1 V N`, with V the number of variables and N the number of pairs. Behind it stand the pairs, as
 -- number words in any division into lines: the literals of a clause, its pair's own first, and a 0.
-use Rattle.std.specs.Prelude.{ℕ, ◌-◌, ◌^◌, List, [], ◌∷◌, ◌++◌, length, flat_map, slice_index, codes, ◌&&◌, ◌==◌, nat_lt, nat_le, if◌then◌else◌, Option, Some, None, Result, Ok, Err}
+use Rattle.std.specs.Prelude.{ℕ, ◌-◌, ◌^◌, List, [], ◌∷◌, ◌++◌, length, flat_map, slice_index, codes, ◌&&◌, ◌==◌, nat_lt, nat_le, if◌then◌else◌, Option, Some, None, ok_or, Result, Ok, Err}
 use Rattle.std.specs.Str.{bytes_eq}
 use Rattle.cp_io.specs.declared.limits.Limits.{Limits}
 use Rattle.cp_io.specs.declared.limits.Limit.TheVariants.{Variables, Bytes}
@@ -12,6 +12,7 @@ use Rattle.cp_logic.specs.Signs.{signed}
 use Rattle.cp_text.specs.Text.{Word, Line}
 use Rattle.cp_text.specs.Numbers.{NumberWord, number_of}
 use Rattle.cp_text.specs.Cut.{lines_within}
+use Rattle.cp_text.specs.Results.{◌>>=◌}
 use Rattle.cp_stack.specs.declared.refusal.StackKind.{StackKind}
 use Rattle.cp_stack.specs.declared.refusal.StackKind.TheVariants.{BadHeader, BadWord, TooGreat, EmptyPair, OpenPair, Count}
 use Rattle.cp_stack.specs.declared.refusal.StackRefusal.{StackRefusal}
@@ -21,12 +22,6 @@ use Rattle.cp_stack.specs.declared.refusal.StackRefusal.TheVariants.{BadStack, T
 pub record Stack : Type 0 where
   pub variables : ℕ
   pub pairs : List Pair
-
--- the first fault stands, and else what follows is read
-infixl 10 ◌>>=◌
-abbrev pub ◌>>=◌ : {A B : Type 0} → Result A StackRefusal → (A → Result B StackRefusal) → Result B StackRefusal
-(Ok x) >>= f = f x
-(Err e) >>= f = Err e
 
 -- a fault of a kind at a place
 abbrev pub bad : {A : Type 0} → ℕ → StackKind → Result A StackRefusal
@@ -105,12 +100,8 @@ header limits lines =
 -- ---- the pairs
 
 -- what a number word says
-abbrev pub number_in : Word → Option NumberWord → Result NumberWord StackRefusal
-number_in w None = bad w.at BadWord
-number_in w (Some n) = Ok n
-
 abbrev pub number_at : Word → Result NumberWord StackRefusal
-number_at w = number_in w (number_of w.bytes)
+number_at w = ok_or (number_of w.bytes) (BadStack w.at BadWord)
 
 -- the first of these literals with the clause of all
 abbrev pub pair_with : List ℕ → Pair

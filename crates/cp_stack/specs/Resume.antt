@@ -5,7 +5,8 @@ use Rattle.cp_logic.specs.Pairs.{pairs_of}
 use Rattle.cp_text.specs.Text.{Word}
 use Rattle.cp_stack.specs.declared.reading.Reading.{Reading}
 use Rattle.cp_stack.specs.declared.refusal.StackRefusal.{StackRefusal}
-use Rattle.cp_stack.specs.Grammar.{◌>>=◌, Stack, pair_with, pairs_in}
+use Rattle.cp_text.specs.Results.{◌>>=◌}
+use Rattle.cp_stack.specs.Grammar.{Stack, pair_with, pairs_in}
 use Rattle.cp_stack.specs.Reads.{Refuses}
 
 -- the stack of the pairs that were ended and of those of these words, which end at a place

@@ -1,5 +1,6 @@
 use Rattle.std.proofs.Common.{subst}
-use Rattle.cp_stack.specs.Reader.{ReaderState, Finishes}
+use Rattle.cp_io.specs.Feeding.{ReaderState}
+use Rattle.cp_stack.specs.Reader.{Finishes}
 use Rattle.cp_stack.proofs.TextRead.{finishes}
 use Rattle.cp_stack.proofs.reader.StackReader.finish.Goals as goal
 

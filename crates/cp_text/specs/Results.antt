@@ -1,0 +1,8 @@
+-- Reading that stops at its first fault.
+use Rattle.std.specs.Prelude.{Result, Ok, Err}
+
+-- a fault stands, and else what follows is read
+infixl 10 ◌>>=◌
+abbrev pub ◌>>=◌ : {A B E : Type 0} → Result A E → (A → Result B E) → Result B E
+(Ok x) >>= f = f x
+(Err e) >>= f = Err e
