@@ -1,5 +1,6 @@
 -- The words of the header line are taken one after the other.
 use Rattle.std.proofs.Common.{◌≡◌, ℕ, ◌+◌, Bool, List, ◌∷◌, length, Result, Ok, Err, true, false, not, ◌<◌, refl, ◌∙◌, ap}
+use Rattle.cp_text.specs.declared.ahead.Ahead.{Ahead}
 use Rattle.cp_text.specs.Text.{Word, Line, lines_from}
 use Rattle.cp_text.specs.Items.{with_word}
 use Rattle.cp_text.proofs.WordFronts.{some_line_from}
@@ -13,26 +14,26 @@ use Rattle.cp_io.specs.declared.limits.Limits.{Limits}
 use Rattle.cp_io.specs.declared.limits.Limit.TheVariants.{Variables}
 use Rattle.cp_text.specs.Cut.{whole_words}
 use Rattle.cp_dimacs.specs.Grammar.{count_in, header, header_format, header_variables, header_count}
-use Rattle.cp_text.specs.Ahead.{IsWordAhead}
+use Rattle.cp_text.specs.Ahead.{text_end, IsWordAhead}
 use Rattle.cp_dimacs.specs.Headers.{SaysLine, FailsLine}
 
 -- ---- a word in front
 
 -- what a line says with a word in front of it, the word being looked at
-says-word : (says after : List Word → ℕ → Result ℕ CnfRefusal) (cut : Bool) (place : ℕ) (text : List ℕ) (w : Word) (rest : List ℕ) (answer : Result ℕ CnfRefusal) (line : Line) (behind : List Line) → IsWordAhead cut place text w rest → lines_from (w.at + length w.bytes) rest ≡ line ∷ behind
-    → says (w ∷ whole_words cut (place + length text) line.words) line.end ≡ answer → SaysLine says cut place text answer behind
-says-word says after cut place text w rest answer line behind ahead is so =
+says-word : (says after : List Word → ℕ → Result ℕ CnfRefusal) (a : Ahead) (w : Word) (rest : List ℕ) (answer : Result ℕ CnfRefusal) (line : Line) (behind : List Line) → IsWordAhead a.cut a.at a.text.now w rest → lines_from (w.at + length w.bytes) rest ≡ line ∷ behind
+    → says (w ∷ whole_words a.cut (text_end a) line.words) line.end ≡ answer → SaysLine says a answer behind
+says-word says after a w rest answer line behind ahead is so =
     record {
       line = record { words = w ∷ line.words; end = line.end };
       is = ahead.lines ∙ ap (with_word w) is;
       says_so = ap (λ (ws : List Word). says ws line.end) (ahead.whole line.words) ∙ so;
     }
 
-pub fails-word : (says : List Word → ℕ → Result ℕ CnfRefusal) (cut : Bool) (place : ℕ) (text : List ℕ) (w : Word) (rest : List ℕ) (refusal : CnfRefusal) → IsWordAhead cut place text w rest → ((words : List Word) (e : ℕ) → says (w ∷ words) e ≡ Err refusal) → FailsLine says cut place text refusal
-fails-word says cut place text w rest refusal ahead is =
+pub fails-word : (says : List Word → ℕ → Result ℕ CnfRefusal) (a : Ahead) (w : Word) (rest : List ℕ) (refusal : CnfRefusal) → IsWordAhead a.cut a.at a.text.now w rest → ((words : List Word) (e : ℕ) → says (w ∷ words) e ≡ Err refusal) → FailsLine says a refusal
+fails-word says a w rest refusal ahead is =
     let some = some_line_from (w.at + length w.bytes) rest in
     let line : Line = some.0 in
-    record { behind = some.1; line = says-word says says cut place text w rest (Err refusal) line some.1 ahead some.2 (is (whole_words cut (place + length text) line.words) line.end) }
+    record { behind = some.1; line = says-word says says a w rest (Err refusal) line some.1 ahead some.2 (is (whole_words a.cut (text_end a) line.words) line.end) }
 
 -- ---- the words
 

@@ -7,7 +7,9 @@ use Rattle.cp_logic.specs.Clauses.{clause_of}
 use Rattle.cp_logic.specs.Entries.{numbered_from}
 use Rattle.cp_logic.specs.Formulas.{Formula, IsFormula}
 use Rattle.cp_logic.specs.Slots.{Held}
+use Rattle.cp_text.specs.declared.ahead.Ahead.{Ahead}
 use Rattle.cp_text.specs.declared.cut.Seen.{Seen}
+use Rattle.cp_text.specs.Ahead.{text_end}
 use Rattle.cp_text.specs.Text.{Line, lines_from}
 use Rattle.cp_text.specs.Cut.{IsSeen}
 use Rattle.cp_dimacs.specs.declared.clauses.Reading.{Reading}
@@ -18,7 +20,7 @@ use Rattle.cp_dimacs.specs.Written.{greatest_of, greatest_in, formula_of, with_c
 use Rattle.cp_text.specs.Results.{◌>>=◌}
 use Rattle.cp_dimacs.specs.Grammar.{body, clauses_from, document, judged, reads}
 use Rattle.cp_dimacs.specs.Lines.{resume_lines}
-use Rattle.cp_dimacs.specs.Document.{document_of, AnswersDocument, AnswersJudge, formula_in}
+use Rattle.cp_dimacs.specs.Document.{document_of, document_ahead, AnswersDocument, AnswersJudge, formula_in}
 use Rattle.cp_dimacs.specs.Reads.{AnswersCnf, IsRead}
 use Rattle.cp_io.specs.Feeding.{ReaderState}
 use Rattle.cp_dimacs.specs.Reader.{Finishes}
@@ -58,16 +60,14 @@ start limits cut most v r lines formula none fresh =
     found-is v b.ended (clauses_from limits 1 0 [] b.words b.end)
     ∙ rw (formula, none, fresh) refl
 
--- the same, where the header was found in a text
-pub document-found : (limits : Limits) (cut : Bool) (text : List ℕ) (v at : ℕ) (rest : List ℕ) (r : Reading) (answer : Result (Formula × Bool) CnfRefusal)
-    → document limits cut (0 + length text) (lines_from 0 text) ≡ document_of limits cut (0 + length text) v (lines_from (at + 1) rest) → at + 1 + length rest ≡ 0 + length text
-    → r.formula.formula ≡ nothing v → r.open_clause.items ≡ [] → r.literals ≡ 0 → resume_lines limits cut (at + 1 + length rest) r (lines_from (at + 1) rest) ≡ answer → document limits cut (length text) (lines_from 0 text) ≡ answer
-document-found limits cut text v at rest r answer found reaches formula none fresh is =
-    let whole : length text ≡ 0 + length text = omega arith in
-    ap (λ n. document limits cut n (lines_from 0 text)) whole
-    ∙ found
-    ∙ ap (λ n. document_of limits cut n v (lines_from (at + 1) rest)) (sym reaches)
-    ∙ start limits cut (at + 1 + length rest) v r (lines_from (at + 1) rest) formula none fresh
+-- the same, where the header was found
+pub document-found : (limits : Limits) (a : Ahead) (v at : ℕ) (rest : List ℕ) (r : Reading) (answer : Result (Formula × Bool) CnfRefusal)
+    → document_ahead limits a ≡ document_of limits a.cut (text_end a) v (lines_from (at + 1) rest) → at + 1 + length rest ≡ text_end a
+    → r.formula.formula ≡ nothing v → r.open_clause.items ≡ [] → r.literals ≡ 0 → resume_lines limits a.cut (at + 1 + length rest) r (lines_from (at + 1) rest) ≡ answer → document_ahead limits a ≡ answer
+document-found limits a v at rest r answer found reaches formula none fresh is =
+    found
+    ∙ ap (λ n. document_of limits a.cut n v (lines_from (at + 1) rest)) (sym reaches)
+    ∙ start limits a.cut (at + 1 + length rest) v r (lines_from (at + 1) rest) formula none fresh
     ∙ is
 
 -- ---- the input
@@ -87,11 +87,20 @@ no_memory limits input false limit (Err (BadInput at kind)) is = absurd cc
 no_memory limits input true limit (Err (TooLarge which at)) is = absurd cc
 no_memory limits input false limit (Err (TooLarge which at)) is = absurd cc
 
-reads-is : (limits : Limits) (input : List ℕ) (seen : Seen) → IsSeen limits.bytes input seen → reads limits input ≡ judged seen.past limits.bytes (document limits seen.cut (length seen.text.now) (lines_from 0 seen.text.now))
-unfolding reads
-reads-is limits input seen is = rw (is.text, is.cut, is.past) refl
+-- the document of what is seen, from its first byte on
+abbrev seen_document : Limits → Seen → Result (Formula × Bool) CnfRefusal
+seen_document limits seen = document limits seen.cut (0 + length seen.text.now) (lines_from 0 seen.text.now)
 
-pub answers : (limits : Limits) (input : List ℕ) (seen : Seen) (found : Result Found CnfRefusal) (result : Result Held CnfRefusal) → IsSeen limits.bytes input seen → AnswersDocument limits seen.cut (length seen.text.now) (lines_from 0 seen.text.now) found
+reads-seen : (limits : Limits) (input : List ℕ) (seen : Seen) → IsSeen limits.bytes input seen → reads limits input ≡ judged seen.past limits.bytes (document limits seen.cut (length seen.text.now) (lines_from 0 seen.text.now))
+unfolding reads
+reads-seen limits input seen is = rw (is.text, is.cut, is.past) refl
+
+reads-is : (limits : Limits) (input : List ℕ) (seen : Seen) → IsSeen limits.bytes input seen → reads limits input ≡ judged seen.past limits.bytes (seen_document limits seen)
+reads-is limits input seen is =
+    let whole : length seen.text.now ≡ 0 + length seen.text.now = omega arith in
+    reads-seen limits input seen is ∙ ap (λ n. judged seen.past limits.bytes (document limits seen.cut n (lines_from 0 seen.text.now))) whole
+
+pub answers : (limits : Limits) (input : List ℕ) (seen : Seen) (found : Result Found CnfRefusal) (result : Result Held CnfRefusal) → IsSeen limits.bytes input seen → AnswersDocument (seen_document limits seen) found
     → AnswersJudge found seen.past limits.bytes result → AnswersCnf limits input result
 answers limits input seen (Ok found) result is document_is judge_is = same limits input result (judge_is ∙ ap (judged seen.past limits.bytes) (sym document_is) ∙ sym (reads-is limits input seen is))
 answers limits input seen (Err NoMemory) result is document_is judge_is = no_memory limits input seen.past limits.bytes result judge_is

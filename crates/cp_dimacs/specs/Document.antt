@@ -1,8 +1,10 @@
 -- A whole text is read.
-use Rattle.std.specs.Prelude.{◌≡◌, ℕ, ◌+◌, List, length, Bool, Result, Ok, Err}
+use Rattle.std.specs.Prelude.{◌≡◌, ℕ, List, Bool, Result, Ok, Err}
 use Rattle.std.specs.Option.{option_copied}
 use Rattle.cp_io.specs.declared.limits.Limits.{Limits}
 use Rattle.cp_logic.specs.Formulas.{Formula}
+use Rattle.cp_text.specs.declared.ahead.Ahead.{Ahead}
+use Rattle.cp_text.specs.Ahead.{all_lines, text_end}
 use Rattle.cp_text.specs.Text.{Line}
 use Rattle.cp_dimacs.specs.declared.header_line.Header.{Header}
 use Rattle.cp_dimacs.specs.declared.parse.Found.{Found}
@@ -18,19 +20,23 @@ use Rattle.cp_text.specs.Stops.{lines_behind, StopsWithin}
 abbrev pub document_of : Limits → Bool → ℕ → ℕ → List Line → Result (Formula × Bool) CnfRefusal
 document_of limits cut most variables lines = clauses_in limits cut most lines >>= λ found. Ok (formula_of variables found.0, found.1)
 
+-- the document of the lines that are ahead
+abbrev pub document_ahead : Limits → Ahead → Result (Formula × Bool) CnfRefusal
+document_ahead limits a = document limits a.cut (text_end a) (all_lines a)
+
 -- The header was found.
-pub record FindsHeader (limits : Limits) (cut : Bool) (place : ℕ) (text : List ℕ) (lines : List Line) (h : Header) : Type 0 where
-  pub is : document limits cut (place + length text) lines ≡ document_of limits cut (place + length text) h.variables (lines_behind h.stop.at (option_copied h.stop.rest))
-  pub within : StopsWithin place text h.stop.at (option_copied h.stop.rest)
+pub record FindsHeader (limits : Limits) (a : Ahead) (h : Header) : Type 0 where
+  pub is : document_ahead limits a ≡ document_of limits a.cut (text_end a) h.variables (lines_behind h.stop.at (option_copied h.stop.rest))
+  pub within : StopsWithin a.at a.text.now h.stop.at (option_copied h.stop.rest)
 
-abbrev pub AnswersFind : Limits → Bool → ℕ → List ℕ → List Line → Result Header CnfRefusal → Type 0
-AnswersFind limits cut place text lines (Ok h) = FindsHeader limits cut place text lines h
-AnswersFind limits cut place text lines (Err refusal) = document limits cut (place + length text) lines ≡ Err refusal
+abbrev pub AnswersFind : Limits → Ahead → Result Header CnfRefusal → Type 0
+AnswersFind limits a (Ok h) = FindsHeader limits a h
+AnswersFind limits a (Err refusal) = document_ahead limits a ≡ Err refusal
 
-abbrev pub AnswersDocument : Limits → Bool → ℕ → List Line → Result Found CnfRefusal → Type 0
-AnswersDocument limits cut most lines (Ok found) = document limits cut most lines ≡ Ok (found.formula.formula, found.ended)
-AnswersDocument limits cut most lines (Err NoMemory) = Unit {0}
-AnswersDocument limits cut most lines (Err refusal) = document limits cut most lines ≡ Err refusal
+abbrev pub AnswersDocument : Result (Formula × Bool) CnfRefusal → Result Found CnfRefusal → Type 0
+AnswersDocument wanted (Ok found) = wanted ≡ Ok (found.formula.formula, found.ended)
+AnswersDocument wanted (Err NoMemory) = Unit {0}
+AnswersDocument wanted (Err refusal) = wanted ≡ Err refusal
 
 -- what was found in the bytes within the limit, as an answer on an input that may be longer
 abbrev pub found_of : Result Found CnfRefusal → Result (Formula × Bool) CnfRefusal

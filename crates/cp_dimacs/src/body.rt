@@ -1,35 +1,31 @@
 //! Reading the lines behind the header.
 
-ghost use Rattle.std.specs.Prelude.{◌≡◌, ◌<◌, ◌+◌, ◌^◌, length, option_copied, IfOk};
+ghost use Rattle.std.specs.Prelude.{option_copied, IfOk};
 ghost use Rattle.cp_io.specs.Limits.{IsWithinStandard};
-ghost use Rattle.cp_text.specs.Text.{lines_from};
 ghost use Rattle.cp_text.specs.Stops.{StopsWithin};
 ghost use Rattle.cp_dimacs.specs.Lines.{TakesLine, TakesAnyLine, AnswersWithin, TakesBody};
 
 use crate::clauses::{Reading, close, take_word};
 use crate::refusal::CnfRefusal;
 use cp_io::Limits;
-use cp_text::{Item, LineStop, next_item, next_seen, skip_line};
+use cp_text::{Ahead, Item, LineStop, next_item, next_seen, skip_line};
 use std::alloc::Global;
 
 /// Takes the words of a line.
 pub(crate) fn take_line<'a>(
     alloc: Global,
     reading: &mut Reading,
-    text: &'a [u8],
-    place: u64,
-    cut: bool,
+    text: Ahead<'a>,
     limits: &Limits,
 ) -> Result<LineStop<'a>, CnfRefusal>
-    requires standard { IsWithinStandard limits.now }
-    requires place { place + length text.now < 2 ^ 64 }
-    ensures takes { TakesLine limits.now cut (place + length text.now) reading.old (lines_from place text.now) result reading.new }
-    ensures within { IfOk result (λ stop. StopsWithin place text.now stop.at (option_copied stop.rest)) }
+    requires { IsWithinStandard limits.now }
+    ensures takes { TakesLine limits.now text.entry reading.old result reading.new }
+    ensures within { IfOk result (λ stop. StopsWithin text.entry.at text.entry.text.now stop.at (option_copied stop.rest)) }
 {
-    let mut rest = text;
-    let mut at = place;
+    let mut rest = text.text;
+    let mut at = text.at;
     'words: loop {
-        match next_seen(rest, at, cut) {
+        match next_seen(rest, at, text.cut) {
             Item::Word {
                 at: begin,
                 word,
@@ -69,31 +65,23 @@ pub(crate) enum LineAnswer<'a> {
 pub(crate) fn take_any_line<'a>(
     alloc: Global,
     reading: &mut Reading,
-    text: &'a [u8],
-    place: u64,
-    cut: bool,
+    text: Ahead<'a>,
     limits: &Limits,
 ) -> Result<LineAnswer<'a>, CnfRefusal>
-    requires standard { IsWithinStandard limits.now }
-    requires place { place + length text.now < 2 ^ 64 }
-    ensures takes { TakesAnyLine limits.now cut (place + length text.now) reading.old (lines_from place text.now) result reading.new }
-    ensures within { IfOk result (AnswersWithin place text.now) }
+    requires { IsWithinStandard limits.now }
+    ensures takes { TakesAnyLine limits.now text.entry reading.old result reading.new }
+    ensures within { IfOk result (AnswersWithin text.entry) }
 {
-    let Item::Word {
-        at: begin,
-        word,
-        ..
-    } = next_item(text, place)
-    else {
-        return Ok(LineAnswer::Stop(skip_line(text, place)));
+    let Item::Word { at, word, .. } = next_item(text.text, text.at) else {
+        return Ok(LineAnswer::Stop(skip_line(text.text, text.at)));
     };
     if word[0] == b'%' {
-        return Ok(LineAnswer::Ended(begin));
+        return Ok(LineAnswer::Ended(at));
     }
     if word[0] == b'c' {
-        return Ok(LineAnswer::Stop(skip_line(text, place)));
+        return Ok(LineAnswer::Stop(skip_line(text.text, text.at)));
     }
-    let stop = take_line(alloc, reading, text, place, cut, limits)?;
+    let stop = take_line(alloc, reading, text, limits)?;
     Ok(LineAnswer::Stop(stop))
 }
 
@@ -101,19 +89,21 @@ pub(crate) fn take_any_line<'a>(
 pub(crate) fn take_body(
     alloc: Global,
     reading: &mut Reading,
-    text: &[u8],
-    place: u64,
-    cut: bool,
+    text: Ahead<'_>,
     limits: &Limits,
 ) -> Result<bool, CnfRefusal>
-    requires standard { IsWithinStandard limits.now }
-    requires place { place + length text.now < 2 ^ 64 }
-    ensures { TakesBody limits.now cut (place + length text.now) reading.old (lines_from place text.now) result reading.new }
+    requires { IsWithinStandard limits.now }
+    ensures { TakesBody limits.now text.entry reading.old result reading.new }
 {
-    let mut rest = text;
-    let mut at = place;
+    let mut rest = text.text;
+    let mut at = text.at;
     'lines: loop {
-        let stop = match take_any_line(alloc, reading, rest, at, cut, limits)? {
+        let left = Ahead {
+            text: rest,
+            at,
+            cut: text.cut,
+        };
+        let stop = match take_any_line(alloc, reading, left, limits)? {
             LineAnswer::Stop(stop) => stop,
             LineAnswer::Ended(end) => {
                 close(reading, end)?;

@@ -1,6 +1,6 @@
 //! Reading the header line, `p cnf V C`.
 
-ghost use Rattle.std.specs.Prelude.{◌≡◌, ◌<◌, ◌≤◌, ◌+◌, ◌^◌, length};
+ghost use Rattle.std.specs.Prelude.{◌≡◌, ◌≤◌};
 ghost use Rattle.cp_io.specs.Limits.{IsWithinStandard};
 ghost use Rattle.cp_dimacs.specs.Grammar.{no_more, header, header_format, header_variables, header_count};
 ghost use Rattle.cp_dimacs.specs.declared.refusal.InputKind.TheVariants.{BadHeader};
@@ -10,66 +10,47 @@ ghost use Rattle.cp_dimacs.specs.Headers.{word_of, IsHeaderWord, IsCount, Answer
 use crate::header_line::Header;
 use crate::refusal::{CnfRefusal, InputKind};
 use cp_io::{Limit, Limits};
-use cp_text::{Item, LineStop, next_seen, parse_number};
+use cp_text::{Ahead, Item, LineStop, next_seen, parse_number};
 
-/// A word of a line, where it ends, and what follows it.
-#[derive(Drop)]
+/// A word of a line, and what is behind it.
+#[derive(Clone, Copy)]
 struct WordAhead<'a> {
     at: u64,
     word: &'a [u8],
-    end: u64,
-    rest: &'a [u8],
+    behind: Ahead<'a>,
 }
 
 /// Reads the header line that stands in front of a text.
-pub(crate) fn read_header<'a>(
-    text: &'a [u8],
-    place: u64,
-    cut: bool,
-    limits: &Limits,
-) -> Result<Header<'a>, CnfRefusal>
-    requires standard { IsWithinStandard limits.now }
-    requires place { place + length text.now < 2 ^ 64 }
-    ensures { AnswersHeader (header limits.now) cut place text.now result }
+pub(crate) fn read_header<'a>(text: Ahead<'a>, limits: &Limits) -> Result<Header<'a>, CnfRefusal>
+    requires { IsWithinStandard limits.now }
+    ensures { AnswersHeader (header limits.now) text.entry result }
 {
-    let name = header_word(text, place, cut)?;
+    let name = header_word(text)?;
     if name.word != b"p".as_slice() {
         return Err(CnfRefusal::BadInput {
             offset: name.at,
             kind: InputKind::NoHeader,
         });
     }
-    read_format(name.rest, name.end, cut, limits)
+    read_format(name.behind, limits)
 }
 
-fn read_format<'a>(
-    text: &'a [u8],
-    place: u64,
-    cut: bool,
-    limits: &Limits,
-) -> Result<Header<'a>, CnfRefusal>
-    requires standard { IsWithinStandard limits.now }
-    requires place { place + length text.now < 2 ^ 64 }
-    ensures { AnswersHeader (header_format limits.now) cut place text.now result }
+fn read_format<'a>(text: Ahead<'a>, limits: &Limits) -> Result<Header<'a>, CnfRefusal>
+    requires { IsWithinStandard limits.now }
+    ensures { AnswersHeader (header_format limits.now) text.entry result }
 {
-    let format = header_word(text, place, cut)?;
+    let format = header_word(text)?;
     if format.word != b"cnf".as_slice() {
         return Err(bad_header(format.at));
     }
-    read_variables(format.rest, format.end, cut, limits)
+    read_variables(format.behind, limits)
 }
 
-fn read_variables<'a>(
-    text: &'a [u8],
-    place: u64,
-    cut: bool,
-    limits: &Limits,
-) -> Result<Header<'a>, CnfRefusal>
-    requires standard { IsWithinStandard limits.now }
-    requires place { place + length text.now < 2 ^ 64 }
-    ensures { AnswersHeader (header_variables limits.now) cut place text.now result }
+fn read_variables<'a>(text: Ahead<'a>, limits: &Limits) -> Result<Header<'a>, CnfRefusal>
+    requires { IsWithinStandard limits.now }
+    ensures { AnswersHeader (header_variables limits.now) text.entry result }
 {
-    let count = header_word(text, place, cut)?;
+    let count = header_word(text)?;
     let variables = read_count(&count)?;
     if variables > u64::from(limits.variables) {
         return Err(CnfRefusal::TooLarge {
@@ -77,30 +58,23 @@ fn read_variables<'a>(
             offset: count.at,
         });
     }
-    read_clauses(count.rest, count.end, cut, variables as u32)
+    read_clauses(count.behind, variables as u32)
 }
 
-fn read_clauses(
-    text: &[u8],
-    place: u64,
-    cut: bool,
-    variables: u32,
-) -> Result<Header<'_>, CnfRefusal>
-    requires most { variables ≤ 2000000 }
-    requires place { place + length text.now < 2 ^ 64 }
-    ensures { AnswersHeader (header_count variables) cut place text.now result }
+fn read_clauses(text: Ahead<'_>, variables: u32) -> Result<Header<'_>, CnfRefusal>
+    requires { variables ≤ 2000000 }
+    ensures { AnswersHeader (header_count variables) text.entry result }
 {
-    let count = header_word(text, place, cut)?;
+    let count = header_word(text)?;
     let _ = read_count(&count)?;
-    read_end(count.rest, count.end, cut, variables)
+    read_end(count.behind, variables)
 }
 
-fn read_end(text: &[u8], place: u64, cut: bool, variables: u32) -> Result<Header<'_>, CnfRefusal>
-    requires most { variables ≤ 2000000 }
-    requires place { place + length text.now < 2 ^ 64 }
-    ensures { AnswersHeader (λ words end. no_more variables words) cut place text.now result }
+fn read_end(text: Ahead<'_>, variables: u32) -> Result<Header<'_>, CnfRefusal>
+    requires { variables ≤ 2000000 }
+    ensures { AnswersHeader (λ words end. no_more variables words) text.entry result }
 {
-    let stop = match next_seen(text, place, cut) {
+    let stop = match next_seen(text.text, text.at, text.cut) {
         Item::Word { at, .. } => return Err(bad_header(at)),
         Item::LineEnd { at, rest } => LineStop {
             at,
@@ -112,16 +86,18 @@ fn read_end(text: &[u8], place: u64, cut: bool, variables: u32) -> Result<Header
 }
 
 // The next word of the header line.
-fn header_word(text: &[u8], place: u64, cut: bool) -> Result<WordAhead<'_>, CnfRefusal>
-    requires { place + length text.now < 2 ^ 64 }
-    ensures { IsHeaderWord cut place text.now result }
+fn header_word(text: Ahead<'_>) -> Result<WordAhead<'_>, CnfRefusal>
+    ensures { IsHeaderWord text.entry result }
 {
-    match next_seen(text, place, cut) {
+    match next_seen(text.text, text.at, text.cut) {
         Item::Word { at, word, rest } => Ok(WordAhead {
             at,
             word,
-            end: at + word.len() as u64,
-            rest,
+            behind: Ahead {
+                text: rest,
+                at: at + word.len() as u64,
+                cut: text.cut,
+            },
         }),
         Item::LineEnd { at, .. } => Err(bad_header(at)),
         Item::End { at } => Err(bad_header(at)),

@@ -1,14 +1,13 @@
 //! Reading an input whole.
 
-ghost use Rattle.std.specs.Prelude.{◌≡◌, ◌<◌, ◌≤◌, ◌+◌, ◌^◌, length, IfOk};
+ghost use Rattle.std.specs.Prelude.{◌≡◌, IfOk};
 ghost use Rattle.cp_io.specs.Limits.{IsWithinStandard};
 ghost use Rattle.cp_logic.specs.Formulas.{IsFormula};
-ghost use Rattle.cp_text.specs.Text.{lines_from};
 ghost use Rattle.cp_io.specs.declared.limits.Limit.TheVariants.{Bytes};
 ghost use Rattle.cp_dimacs.specs.declared.refusal.InputKind.TheVariants.{NoHeader};
 ghost use Rattle.cp_dimacs.specs.declared.refusal.CnfRefusal.TheVariants.{BadInput, TooLarge};
 ghost use Rattle.cp_dimacs.specs.Grammar.{stands_before};
-ghost use Rattle.cp_dimacs.specs.Document.{AnswersFind, AnswersDocument, AnswersJudge};
+ghost use Rattle.cp_dimacs.specs.Document.{document_ahead, AnswersFind, AnswersDocument, AnswersJudge};
 ghost use Rattle.cp_dimacs.specs.Reads.{AnswersCnf, IsRead};
 
 use crate::body::take_body;
@@ -18,7 +17,7 @@ use crate::header_line::Header;
 use crate::refusal::{CnfRefusal, InputKind};
 use cp_io::{Limit, Limits};
 use cp_logic::Formula;
-use cp_text::{Item, LineStop, next_seen, skip_line, within};
+use cp_text::{Ahead, Item, LineStop, next_seen, skip_line, within};
 use std::alloc::Global;
 
 /// A formula, and whether a line ended the input.
@@ -39,22 +38,21 @@ pub fn parse_cnf(alloc: Global, bytes: &[u8], limits: &Limits) -> Result<Formula
     ensures valid { IfOk result (λ f. IsRead limits.now f.formula) }
 {
     let seen = within(bytes, limits.bytes);
-    let found = read_document(alloc, seen.text, seen.cut, limits);
+    let text = Ahead {
+        text: seen.text,
+        at: 0,
+        cut: seen.cut,
+    };
+    let found = read_document(alloc, text, limits);
     judge(found, seen.past, limits.bytes)
 }
 
-// The formula of a text whose last word may be cut.
-fn read_document(
-    alloc: Global,
-    text: &[u8],
-    cut: bool,
-    limits: &Limits,
-) -> Result<Found, CnfRefusal>
-    requires standard { IsWithinStandard limits.now }
-    requires short { length text.now < 2 ^ 63 }
-    ensures { AnswersDocument limits.now cut (length text.now) (lines_from 0 text.now) result }
+// The formula of the lines that are ahead.
+fn read_document(alloc: Global, text: Ahead<'_>, limits: &Limits) -> Result<Found, CnfRefusal>
+    requires { IsWithinStandard limits.now }
+    ensures { AnswersDocument (document_ahead limits.now text.entry) result }
 {
-    let header = find_header(text, cut, limits)?;
+    let header = find_header(text, limits)?;
     let mut reading = Reading {
         formula: Formula::new(alloc, header.variables, 1),
         open_clause: Vec::new(alloc),
@@ -66,7 +64,12 @@ fn read_document(
             ended: false,
         });
     };
-    let ended = take_body(alloc, &mut reading, rest, header.stop.at + 1, cut, limits)?;
+    let behind = Ahead {
+        text: rest,
+        at: header.stop.at + 1,
+        cut: text.cut,
+    };
+    let ended = take_body(alloc, &mut reading, behind, limits)?;
     Ok(Found {
         formula: reading.formula,
         ended,
@@ -74,18 +77,20 @@ fn read_document(
 }
 
 // The header line, behind comments and lines without words.
-fn find_header<'a>(text: &'a [u8], cut: bool, limits: &Limits) -> Result<Header<'a>, CnfRefusal>
-    requires standard { IsWithinStandard limits.now }
-    requires short { length text.now < 2 ^ 63 }
-    ensures { AnswersFind limits.now cut 0 text.now (lines_from 0 text.now) result }
+fn find_header<'a>(text: Ahead<'a>, limits: &Limits) -> Result<Header<'a>, CnfRefusal>
+    requires { IsWithinStandard limits.now }
+    ensures { AnswersFind limits.now text.entry result }
 {
-    let mut rest = text;
-    let mut at = 0;
+    let mut rest = text.text;
+    let mut at = text.at;
     'lines: loop {
-        let stop = match next_seen(rest, at, cut) {
-            Item::Word { word, .. } if word[0] != b'c' => {
-                return read_header(rest, at, cut, limits);
-            }
+        let left = Ahead {
+            text: rest,
+            at,
+            cut: text.cut,
+        };
+        let stop = match next_seen(rest, at, text.cut) {
+            Item::Word { word, .. } if word[0] != b'c' => return read_header(left, limits),
             Item::Word { .. } => skip_line(rest, at),
             Item::LineEnd { at, rest } => LineStop {
                 at,

@@ -4,6 +4,7 @@ use Rattle.std.specs.Option.{option_copied}
 use Rattle.std.specs.Str.{bytes_eq}
 use Rattle.cp_io.specs.declared.limits.Limits.{Limits}
 use Rattle.cp_text.specs.Numbers.{NumberWord}
+use Rattle.cp_text.specs.declared.ahead.Ahead.{Ahead}
 use Rattle.cp_text.specs.declared.lines.LineStop.{LineStop}
 use Rattle.cp_text.specs.Items.{with_word}
 use Rattle.cp_text.specs.Stops.{StopsWithin, seen_behind}
@@ -52,9 +53,9 @@ GoesOn limits cut expected (Ok (Some stop)) new = expected ≡ behind_stop limit
 GoesOn limits cut expected (Ok None) new = expected ≡ Ok new.given
 GoesOn limits cut expected (Err stop) new = stop.refusal ≢ NoMemory → expected ≡ Err stop
 
-abbrev pub AnswersWithin : ℕ → List ℕ → Option LineStop → Type 0
-AnswersWithin place text None = Unit {0}
-AnswersWithin place text (Some stop) = StopsWithin place text stop.at (option_copied stop.rest)
+abbrev pub AnswersWithin : Ahead → Option LineStop → Type 0
+AnswersWithin a None = Unit {0}
+AnswersWithin a (Some stop) = StopsWithin a.at a.text.now stop.at (option_copied stop.rest)
 
 -- All lines are read, up to the 0, or reading stops.
 abbrev pub ReadsLines : Result Given Stop → Result (Unit {0}) Stop → Reading → Type 0

@@ -1,9 +1,9 @@
 //! Reading the lines of a model's text. Each step is a law over what is left: what the rest reads as behind what was read is what
 //! it reads as behind what is read now.
 
-ghost use Rattle.std.specs.Prelude.{◌≡◌, ◌≢◌, ◌≤◌, ◌<◌, ◌+◌, ◌^◌, ℕ, length, IfOk, option_copied, Ok, Err};
+ghost use Rattle.std.specs.Prelude.{◌≡◌, ℕ, IfOk, option_copied};
 ghost use Rattle.cp_io.specs.declared.limits.Limits.{Limits};
-ghost use Rattle.cp_text.specs.Cut.{lines_seen};
+ghost use Rattle.cp_text.specs.Ahead.{lines_of};
 ghost use Rattle.cp_extend.specs.Grammar.{document};
 ghost use Rattle.cp_extend.specs.Held.{reading_of};
 ghost use Rattle.cp_text.specs.Stops.{StopsWithin};
@@ -12,7 +12,7 @@ ghost use Rattle.cp_extend.specs.Steps.{TakesWord, GoesOn, AnswersWithin, ReadsL
 use crate::progress::Progress;
 use crate::refusal::{ModelKind, ModelRefusal, Stop};
 use cp_io::{Limit, Limits};
-use cp_text::{Item, LineStop, next_seen, parse_number, skip_line};
+use cp_text::{Ahead, Item, LineStop, next_seen, parse_number, skip_line};
 
 // Takes a word of a value line. True where it is the 0.
 fn take_word(progress: &mut Progress, at: u64, word: &[u8], limits: &Limits) -> Result<bool, Stop>
@@ -54,19 +54,16 @@ fn too_great(at: u64) -> Stop
 // Takes the words of a value line, up to the 0.
 fn take_values<'a>(
     progress: &mut Progress,
-    text: &'a [u8],
-    place: u64,
-    cut: bool,
+    text: Ahead<'a>,
     limits: &Limits,
 ) -> Result<Option<LineStop<'a>>, Stop>
-    requires { place + length text.now < 2 ^ 64 }
-    ensures takes { GoesOn limits.now cut (in_values limits.now (reading_of progress.old) (lines_seen cut place text.now)) result (reading_of progress.new) }
-    ensures within { IfOk result (AnswersWithin place text.now) }
+    ensures takes { GoesOn limits.now text.entry.cut (in_values limits.now (reading_of progress.old) (lines_of text.entry)) result (reading_of progress.new) }
+    ensures within { IfOk result (AnswersWithin text.entry) }
 {
-    let mut rest = text;
-    let mut from = place;
+    let mut rest = text.text;
+    let mut from = text.at;
     'words: loop {
-        let (at, word, after) = match next_seen(rest, from, cut) {
+        let (at, word, after) = match next_seen(rest, from, text.cut) {
             Item::Word { at, word, rest } => (at, word, rest),
             Item::LineEnd { at, rest } => {
                 return Ok(Some(LineStop {
@@ -98,12 +95,11 @@ fn says_model(at: u64, word: &[u8]) -> Result<bool, Stop>
 }
 
 // The end of a status line, of which no word is left.
-fn end_status(text: &[u8], place: u64, cut: bool) -> Result<LineStop<'_>, Stop>
-    requires { place + length text.now < 2 ^ 64 }
-    ensures ends { EndsStatus cut (lines_seen cut place text.now) result }
-    ensures within { IfOk result (λ stop. StopsWithin place text.now stop.at (option_copied stop.rest)) }
+fn end_status(text: Ahead<'_>) -> Result<LineStop<'_>, Stop>
+    ensures ends { EndsStatus text.entry.cut (lines_of text.entry) result }
+    ensures within { IfOk result (λ stop. StopsWithin text.entry.at text.entry.text.now stop.at (option_copied stop.rest)) }
 {
-    match next_seen(text, place, cut) {
+    match next_seen(text.text, text.at, text.cut) {
         Item::Word { at, .. } => Err(Stop::bad(at, ModelKind::BadStatus)),
         Item::LineEnd { at, rest } => Ok(LineStop {
             at,
@@ -114,23 +110,22 @@ fn end_status(text: &[u8], place: u64, cut: bool) -> Result<LineStop<'_>, Stop>
 }
 
 // Takes the words of a status line behind its `s`.
-fn take_status<'a>(
-    progress: &mut Progress,
-    text: &'a [u8],
-    place: u64,
-    cut: bool,
-) -> Result<Option<LineStop<'a>>, Stop>
-    requires { place + length text.now < 2 ^ 64 }
-    ensures takes { (limits : Limits) → GoesOn limits cut (in_status limits (reading_of progress.old) (lines_seen cut place text.now)) result (reading_of progress.new) }
-    ensures within { IfOk result (AnswersWithin place text.now) }
+fn take_status<'a>(progress: &mut Progress, text: Ahead<'a>) -> Result<Option<LineStop<'a>>, Stop>
+    ensures takes { (limits : Limits) → GoesOn limits text.entry.cut (in_status limits (reading_of progress.old) (lines_of text.entry)) result (reading_of progress.new) }
+    ensures within { IfOk result (AnswersWithin text.entry) }
 {
-    let (at, word, rest) = match next_seen(text, place, cut) {
+    let (at, word, rest) = match next_seen(text.text, text.at, text.cut) {
         Item::Word { at, word, rest } => (at, word, rest),
         Item::LineEnd { at, .. } => return Err(Stop::bad(at, ModelKind::BadStatus)),
         Item::End { at } => return Err(Stop::bad(at, ModelKind::BadStatus)),
     };
     let has_model = says_model(at, word)?;
-    let stop = end_status(rest, at + word.len() as u64, cut)?;
+    let behind = Ahead {
+        text: rest,
+        at: at + word.len() as u64,
+        cut: text.cut,
+    };
+    let stop = end_status(behind)?;
     if !has_model {
         return Err(Stop {
             at: stop.at,
@@ -144,16 +139,13 @@ fn take_status<'a>(
 // Takes a line, by its first word.
 fn take_line<'a>(
     progress: &mut Progress,
-    text: &'a [u8],
-    place: u64,
-    cut: bool,
+    text: Ahead<'a>,
     limits: &Limits,
 ) -> Result<Option<LineStop<'a>>, Stop>
-    requires { place + length text.now < 2 ^ 64 }
-    ensures takes { (end : ℕ) → GoesOn limits.now cut (document limits.now (reading_of progress.old) end (lines_seen cut place text.now)) result (reading_of progress.new) }
-    ensures within { IfOk result (AnswersWithin place text.now) }
+    ensures takes { (end : ℕ) → GoesOn limits.now text.entry.cut (document limits.now (reading_of progress.old) end (lines_of text.entry)) result (reading_of progress.new) }
+    ensures within { IfOk result (AnswersWithin text.entry) }
 {
-    let (at, word, rest) = match next_seen(text, place, cut) {
+    let (at, word, rest) = match next_seen(text.text, text.at, text.cut) {
         Item::Word { at, word, rest } => (at, word, rest),
         Item::LineEnd { at, rest } => {
             return Ok(Some(LineStop {
@@ -163,42 +155,49 @@ fn take_line<'a>(
         }
         Item::End { at } => return Ok(Some(LineStop { at, rest: None })),
     };
-    let behind = at + word.len() as u64;
+    let behind = Ahead {
+        text: rest,
+        at: at + word.len() as u64,
+        cut: text.cut,
+    };
     if word[0] == b'c' {
-        return Ok(Some(skip_line(rest, behind)));
+        return Ok(Some(skip_line(behind.text, behind.at)));
     }
     if word == b"v".as_slice() {
-        return take_values(progress, rest, behind, cut, limits);
+        return take_values(progress, behind, limits);
     }
     if word == b"s".as_slice() {
         if progress.has_status() {
             return Err(Stop::bad(at, ModelKind::BadStatus));
         }
-        return take_status(progress, rest, behind, cut);
+        return take_status(progress, behind);
     }
     Err(Stop::bad(at, ModelKind::BadWord))
 }
 
-// Takes the lines of a text, up to the 0.
+// Takes the lines that are ahead, up to the 0.
 pub(crate) fn take_lines(
     progress: &mut Progress,
-    text: &[u8],
-    cut: bool,
+    text: Ahead<'_>,
     limits: &Limits,
 ) -> Result<(), Stop>
-    requires { length text.now < 2 ^ 64 }
-    ensures { ReadsLines (document limits.now (reading_of progress.old) 0 (lines_seen cut 0 text.now)) result (reading_of progress.new) }
+    ensures { ReadsLines (document limits.now (reading_of progress.old) 0 (lines_of text.entry)) result (reading_of progress.new) }
 {
-    let mut rest = text;
-    let mut place = 0;
+    let mut rest = text.text;
+    let mut at = text.at;
     'lines: loop {
-        let Some(stop) = take_line(progress, rest, place, cut, limits)? else {
+        let left = Ahead {
+            text: rest,
+            at,
+            cut: text.cut,
+        };
+        let Some(stop) = take_line(progress, left, limits)? else {
             return Ok(());
         };
         let Some(after) = stop.rest else {
             return Err(Stop::bad(stop.at, ModelKind::NoEnd));
         };
-        place = stop.at + 1;
+        at = stop.at + 1;
         rest = after;
     }
 }

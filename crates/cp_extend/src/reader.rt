@@ -17,7 +17,7 @@ use crate::progress::Progress;
 use crate::refusal::{ModelRefusal, Stop};
 use cp_io::{Feed, Limit, Limits};
 use cp_logic::Assignment;
-use cp_text::{Collected, within};
+use cp_text::{Ahead, Collected, within};
 use std::alloc::{AllocError, Global};
 use std::marker::Model;
 
@@ -51,7 +51,12 @@ fn read_into(
 {
     let seen = within(bytes, limits.bytes);
     let mut progress = Progress::new(alloc);
-    if let Err(stop) = take_lines(&mut progress, seen.text, seen.cut, limits) {
+    let text = Ahead {
+        text: seen.text,
+        at: 0,
+        cut: seen.cut,
+    };
+    if let Err(stop) = take_lines(&mut progress, text, limits) {
         return Err(refusal_of(stop, seen.past, limits.bytes));
     }
     progress.fill(model);

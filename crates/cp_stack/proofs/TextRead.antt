@@ -1,5 +1,5 @@
 -- What a text reads as, from what is seen of it.
-use Rattle.std.proofs.Common.{◌≡◌, ◌≢◌, ℕ, ◌+◌, true, false, ltb, List, length, take, Option, Some, None, Result, refl, ◌∙◌, ap, subst}
+use Rattle.std.proofs.Common.{◌≡◌, ℕ, ◌+◌, true, false, ltb, List, length, take, Result, refl, ◌∙◌, ap, subst}
 use Rattle.cp_io.specs.declared.limits.Limits.{Limits}
 use Rattle.cp_logic.specs.declared.pairs.Stack.{Stack as HeldStack}
 use Rattle.cp_text.specs.Text.{Line}

@@ -2,8 +2,7 @@
 use Rattle.std.specs.Prelude.{ℕ, List, Option, Result, Ok, Err}
 use Rattle.cp_text.specs.Text.{Line}
 use Rattle.cp_text.specs.Numbers.{kept_size}
-use Rattle.cp_text.specs.Cut.{lines_seen}
-use Rattle.cp_stack.specs.declared.ahead.Ahead.{Ahead}
+use Rattle.cp_text.specs.Ahead.{lines_of}
 use Rattle.cp_stack.specs.declared.header.FirstWord.{FirstWord}
 use Rattle.cp_stack.specs.declared.header.Size.{Size}
 use Rattle.cp_stack.specs.declared.header.VariableCount.{VariableCount}
@@ -11,10 +10,6 @@ use Rattle.cp_stack.specs.declared.header.PairCount.{PairCount}
 use Rattle.cp_stack.specs.declared.header.Header.{Header as FoundHeader}
 use Rattle.cp_stack.specs.declared.refusal.StackRefusal.{StackRefusal}
 use Rattle.cp_stack.specs.Grammar.{Taken, Counted, Header}
-
--- the lines that are ahead
-abbrev pub lines_of : Ahead → List Line
-lines_of a = lines_seen a.cut a.at a.text.now
 
 -- what was found, by what it is to the definitions
 abbrev pub seen_by : {A B : Type 0} → (A → B) → Result A StackRefusal → Result B StackRefusal

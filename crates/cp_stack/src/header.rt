@@ -4,12 +4,12 @@
 
 ghost use Rattle.std.specs.Prelude.{◌≡◌, ◌≤◌, IfOk};
 ghost use Rattle.cp_stack.specs.Grammar.{from_words, next_word, named, counted, variables_in, number_of_pairs, no_word, header};
-ghost use Rattle.cp_stack.specs.Ahead.{lines_of, seen_by, word_seen, size_kept, size_seen, behind_size, variables_seen, pairs_seen, header_seen};
+ghost use Rattle.cp_text.specs.Ahead.{lines_of};
+ghost use Rattle.cp_stack.specs.Ahead.{seen_by, word_seen, size_kept, size_seen, behind_size, variables_seen, pairs_seen, header_seen};
 
-use crate::ahead::Ahead;
 use crate::refusal::{StackKind, StackRefusal};
 use cp_io::{Limit, Limits};
-use cp_text::{Item, Number, next_seen, parse_number};
+use cp_text::{Ahead, Item, Number, next_seen, parse_number};
 
 /// A word, and what is ahead of it.
 #[derive(Clone, Copy)]

@@ -7,7 +7,6 @@
 //! printed stack is read as itself.
 #![tactic(auto)]
 
-mod ahead;
 mod header;
 pub mod laws;
 mod parsing;

@@ -3,17 +3,16 @@
 ghost use Rattle.std.specs.Prelude.{◌≡◌, ◌≤◌, IfOk, Result};
 ghost use Rattle.cp_io.specs.Limits.{IsWithinStandard};
 ghost use Rattle.cp_stack.specs.declared.refusal.StackRefusal.{StackRefusal as Refusal};
-ghost use Rattle.cp_stack.specs.Ahead.{lines_of};
+ghost use Rattle.cp_text.specs.Ahead.{lines_of};
 ghost use Rattle.cp_stack.specs.Grammar.{Stack as StackRead, document, place_of, cut_at};
 ghost use Rattle.cp_stack.specs.Reads.{Gives, AnswersStack};
 
-use crate::ahead::Ahead;
 use crate::header::read_header;
 use crate::reading::{Reading, read_pairs};
 use crate::refusal::StackRefusal;
 use cp_io::{Limit, Limits};
 use cp_logic::Stack;
-use cp_text::within;
+use cp_text::{Ahead, within};
 use std::alloc::Global;
 
 /// The stack that a text spells, or its first fault.

@@ -2,18 +2,17 @@
 //!
 //! The literals of all pairs go through one list, so that a short clause takes no memory of its own.
 
-ghost use Rattle.std.specs.Prelude.{◌≡◌, ◌<◌, ◌≤◌, [], length, OnOk, IfOk};
+ghost use Rattle.std.specs.Prelude.{◌≡◌, ◌<◌, [], length, OnOk, IfOk};
 ghost use Rattle.cp_logic.specs.Pairs.{pair_of};
-ghost use Rattle.cp_stack.specs.Ahead.{lines_of};
+ghost use Rattle.cp_text.specs.Ahead.{lines_of};
 ghost use Rattle.cp_stack.specs.Grammar.{words_of, end_of, pair_with};
 ghost use Rattle.cp_stack.specs.Reads.{Gives};
 ghost use Rattle.cp_stack.specs.Resume.{resume, IsReading, IsStep, EndsPair, up_to};
 
-use crate::ahead::Ahead;
 use crate::header::bad;
 use crate::refusal::{StackKind, StackRefusal};
 use cp_logic::{Clause, Lit, Pair, Stack};
-use cp_text::{Item, next_seen, parse_number};
+use cp_text::{Ahead, Item, next_seen, parse_number};
 use std::alloc::{AllocError, Global};
 
 /// The pairs that were ended, the literals of the pair that is open, and how many pairs are still to be ended.

@@ -1,10 +1,22 @@
 -- What comes next in a text whose last word may be cut.
 use Rattle.std.specs.Prelude.{◌≡◌, ℕ, ◌+◌, ◌<◌, ◌≤◌, List, [], ◌∷◌, length, Bool}
+use Rattle.cp_text.specs.declared.ahead.Ahead.{Ahead}
 use Rattle.cp_text.specs.declared.text.Item.{Item}
 use Rattle.cp_text.specs.declared.text.Item.TheVariants as items
 use Rattle.cp_text.specs.Text.{Word as TextWord, Line, lines_from}
 use Rattle.cp_text.specs.Items.{with_word}
-use Rattle.cp_text.specs.Cut.{whole_words}
+use Rattle.cp_text.specs.Cut.{whole_words, lines_seen}
+
+-- the lines that are ahead, and where the text ends
+abbrev pub all_lines : Ahead → List Line
+all_lines a = lines_from a.at a.text.now
+
+abbrev pub text_end : Ahead → ℕ
+text_end a = a.at + length a.text.now
+
+-- the lines that are seen
+abbrev pub lines_of : Ahead → List Line
+lines_of a = lines_seen a.cut a.at a.text.now
 
 -- a word that is looked at stands in front of a text that ends at a place, and the rest begins where it ends
 pub record IsWordAhead (cut : Bool) (place : ℕ) (text : List ℕ) (w : TextWord) (rest : List ℕ) : Type 0 where

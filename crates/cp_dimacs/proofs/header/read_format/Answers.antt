@@ -10,4 +10,4 @@ returns-then-ne c =
     let w = word_of c.in_ok-format.format in
     let differs = rw c.as_slice.ensures at c.if-ne.ensures in
     rw c.bad_header.ensures
-    (fails-word (header_format c.args.limits.now) c.args.cut c.args.place c.args.text.now w c.in_ok-format.format.rest.now _ c.in_ok-format.ensures.0 (λ words e. no_format c.args.limits.now w words e (not_true (bytes_eq w.bytes (codes "cnf")) differs)))
+    (fails-word (header_format c.args.limits.now) c.args.text w c.in_ok-format.format.behind.text.now _ c.in_ok-format.ensures.0 (λ words e. no_format c.args.limits.now w words e (not_true (bytes_eq w.bytes (codes "cnf")) differs)))

@@ -9,4 +9,4 @@ pub returns-then-ne : goal.returns-then-ne
 returns-then-ne c =
     let w = word_of c.in_ok-name.name in
     let differs = rw c.as_slice.ensures at c.if-ne.ensures in
-    fails-word (header c.args.limits.now) c.args.cut c.args.place c.args.text.now w c.in_ok-name.name.rest.now _ c.in_ok-name.ensures.0 (λ words e. no_name c.args.limits.now w words e (not_true (bytes_eq w.bytes (codes "p")) differs))
+    fails-word (header c.args.limits.now) c.args.text w c.in_ok-name.name.behind.text.now _ c.in_ok-name.ensures.0 (λ words e. no_name c.args.limits.now w words e (not_true (bytes_eq w.bytes (codes "p")) differs))

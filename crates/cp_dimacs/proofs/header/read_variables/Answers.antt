@@ -10,7 +10,7 @@ returns-in_err-variables c =
     let p = err_from_is_err_and c.from_residual-in_err-variables.result c.from_residual-in_err-variables.ensures.1 in
     let w = word_of c.in_ok-count.count in
     rw (p.1, p.2)
-    (fails-word (header_variables c.args.limits.now) c.args.cut c.args.place c.args.text.now w c.in_ok-count.count.rest.now c.in_err-variables.field-0.0 c.in_ok-count.ensures.0
+    (fails-word (header_variables c.args.limits.now) c.args.text w c.in_ok-count.count.behind.text.now c.in_err-variables.field-0.0 c.in_ok-count.ensures.0
     (λ words e. no_variables c.args.limits.now w words e c.in_err-variables.field-0.0 c.in_err-variables.ensures))
 
 pub returns-then-variables-from : goal.returns-then-variables-from
@@ -18,4 +18,4 @@ returns-then-variables-from c =
     let w = word_of c.in_ok-count.count in
     let k = c.in_ok-variables.ensures in
     let past : c.args.limits.now.variables < k.0 = omega (arith, k.2, c.if-variables-from.true, c.from.ensures) in
-    fails-word (header_variables c.args.limits.now) c.args.cut c.args.place c.args.text.now w c.in_ok-count.count.rest.now _ c.in_ok-count.ensures.0 (λ words e. too_many c.args.limits.now w words e k.0 k.1 past)
+    fails-word (header_variables c.args.limits.now) c.args.text w c.in_ok-count.count.behind.text.now _ c.in_ok-count.ensures.0 (λ words e. too_many c.args.limits.now w words e k.0 k.1 past)

@@ -10,4 +10,4 @@ returns c =
     let line = rw c.in-Some.is at found.is in
     let within = rw c.in-Some.is at found.within in
     let r : Reading = record { formula = c.new.result; open_clause = c.new-2.result; literals = 0 } in
-    document-found c.args.limits.now c.args.cut c.args.text.now h.variables h.stop.at c.in-Some.rest.now r _ line within.1 c.new.ensures c.new-2.ensures.items refl c.in_ok-ended.ensures
+    document-found c.args.limits.now c.args.text h.variables h.stop.at c.in-Some.rest.now r _ line within.1 c.new.ensures c.new-2.ensures.items refl c.in_ok-ended.ensures

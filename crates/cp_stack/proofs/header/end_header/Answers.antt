@@ -1,6 +1,6 @@
 use Rattle.std.proofs.Common.{◌+◌, ◌∙◌, ap, Err, length}
 use Rattle.cp_text.specs.Cut.{lines_seen}
-use Rattle.cp_stack.specs.Ahead.{lines_of}
+use Rattle.cp_text.specs.Ahead.{lines_of}
 use Rattle.cp_text.proofs.LinesAhead.{some_line_seen}
 use Rattle.cp_stack.proofs.LinesAhead.{no_word-word}
 use Rattle.cp_stack.proofs.header.end_header.Goals as goal

@@ -1,5 +1,5 @@
 use Rattle.std.proofs.Common.{◌+◌, length}
-use Rattle.cp_stack.specs.Ahead.{lines_of}
+use Rattle.cp_text.specs.Ahead.{lines_of}
 use Rattle.cp_text.specs.Cut.{lines_seen}
 use Rattle.cp_text.proofs.LinesAhead.{some_line_seen}
 use Rattle.cp_stack.proofs.LinesAhead.{next_word-word}

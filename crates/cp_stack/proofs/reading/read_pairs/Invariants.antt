@@ -1,6 +1,6 @@
 use Rattle.std.proofs.Common.{◌≡◌, ◌+◌, length}
 use Rattle.cp_text.specs.Cut.{lines_seen}
-use Rattle.cp_stack.specs.Ahead.{lines_of}
+use Rattle.cp_text.specs.Ahead.{lines_of}
 use Rattle.cp_stack.specs.Grammar.{words_of, end_of}
 use Rattle.cp_stack.specs.Resume.{resume, IsReading}
 use Rattle.cp_stack.proofs.reading.read_pairs.Given as goal

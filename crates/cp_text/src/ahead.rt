@@ -4,7 +4,8 @@ ghost use Rattle.std.specs.Prelude.{◌<◌, ◌+◌, ◌^◌, length};
 
 /// What is left of a text whose last word may be cut.
 #[derive(Clone, Copy)]
-pub(crate) struct Ahead<'a> {
+pub struct Ahead<'a> {
+    /// The bytes that are left.
     pub text: &'a [u8],
     /// How many bytes stand before it.
     pub at: u64,
