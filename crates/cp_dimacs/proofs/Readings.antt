@@ -87,20 +87,19 @@ no_memory limits input false limit (Err (BadInput at kind)) is = absurd cc
 no_memory limits input true limit (Err (TooLarge which at)) is = absurd cc
 no_memory limits input false limit (Err (TooLarge which at)) is = absurd cc
 
--- the document of what is seen, from its first byte on
-abbrev seen_document : Limits → Seen → Result (Formula × Bool) CnfRefusal
-seen_document limits seen = document limits seen.cut (0 + length seen.text.now) (lines_from 0 seen.text.now)
-
-reads-seen : (limits : Limits) (input : List ℕ) (seen : Seen) → IsSeen limits.bytes input seen → reads limits input ≡ judged seen.past limits.bytes (document limits seen.cut (length seen.text.now) (lines_from 0 seen.text.now))
+reads-seen : (limits : Limits) (input : List ℕ) (seen : Seen) → IsSeen limits.bytes input seen → reads limits input ≡ judged seen.past limits.bytes (document limits seen.ahead.cut (length seen.ahead.text.now) (lines_from 0 seen.ahead.text.now))
 unfolding reads
 reads-seen limits input seen is = rw (is.text, is.cut, is.past) refl
 
-reads-is : (limits : Limits) (input : List ℕ) (seen : Seen) → IsSeen limits.bytes input seen → reads limits input ≡ judged seen.past limits.bytes (seen_document limits seen)
+reads-is : (limits : Limits) (input : List ℕ) (seen : Seen) → IsSeen limits.bytes input seen → reads limits input ≡ judged seen.past limits.bytes (document_ahead limits seen.ahead)
 reads-is limits input seen is =
-    let whole : length seen.text.now ≡ 0 + length seen.text.now = omega arith in
-    reads-seen limits input seen is ∙ ap (λ n. judged seen.past limits.bytes (document limits seen.cut n (lines_from 0 seen.text.now))) whole
+    let text = seen.ahead.text.now in
+    let end : length text ≡ text_end seen.ahead = omega (arith, is.start) in
+    reads-seen limits input seen is
+    ∙ ap (λ n. judged seen.past limits.bytes (document limits seen.ahead.cut n (lines_from 0 text))) end
+    ∙ ap (λ p. judged seen.past limits.bytes (document limits seen.ahead.cut (text_end seen.ahead) (lines_from p text))) (sym is.start)
 
-pub answers : (limits : Limits) (input : List ℕ) (seen : Seen) (found : Result Found CnfRefusal) (result : Result Held CnfRefusal) → IsSeen limits.bytes input seen → AnswersDocument (seen_document limits seen) found
+pub answers : (limits : Limits) (input : List ℕ) (seen : Seen) (found : Result Found CnfRefusal) (result : Result Held CnfRefusal) → IsSeen limits.bytes input seen → AnswersDocument (document_ahead limits seen.ahead) found
     → AnswersJudge found seen.past limits.bytes result → AnswersCnf limits input result
 answers limits input seen (Ok found) result is document_is judge_is = same limits input result (judge_is ∙ ap (judged seen.past limits.bytes) (sym document_is) ∙ sym (reads-is limits input seen is))
 answers limits input seen (Err NoMemory) result is document_is judge_is = no_memory limits input seen.past limits.bytes result judge_is

@@ -38,12 +38,7 @@ pub fn parse_cnf(alloc: Global, bytes: &[u8], limits: &Limits) -> Result<Formula
     ensures valid { IfOk result (λ f. IsRead limits.now f.formula) }
 {
     let seen = within(bytes, limits.bytes);
-    let text = Ahead {
-        text: seen.text,
-        at: 0,
-        cut: seen.cut,
-    };
-    let found = read_document(alloc, text, limits);
+    let found = read_document(alloc, seen.ahead, limits);
     judge(found, seen.past, limits.bytes)
 }
 

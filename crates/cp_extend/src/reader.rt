@@ -9,7 +9,7 @@
 ghost use Rattle.std.specs.Prelude.{◌≡◌, ◌≢◌, ◌≤◌, [], false, true, length, IfOk};
 ghost use Rattle.cp_extend.specs.declared.refusal.ModelRefusal.TheVariants.{NoMemory};
 ghost use Rattle.cp_extend.specs.Grammar.{told};
-ghost use Rattle.cp_io.specs.Feeding.{Feeds};
+ghost use Rattle.cp_io.specs.Feeding.{Feeds, KeepsFed};
 ghost use Rattle.cp_extend.specs.Reads.{AnswersModel, AnswersInto, Finishes};
 
 use crate::parsing::take_lines;
@@ -17,7 +17,7 @@ use crate::progress::Progress;
 use crate::refusal::{ModelRefusal, Stop};
 use cp_io::{Feed, Limit, Limits};
 use cp_logic::Assignment;
-use cp_text::{Ahead, Collected, within};
+use cp_text::{Collected, within};
 use std::alloc::{AllocError, Global};
 use std::marker::Model;
 
@@ -51,12 +51,7 @@ fn read_into(
 {
     let seen = within(bytes, limits.bytes);
     let mut progress = Progress::new(alloc);
-    let text = Ahead {
-        text: seen.text,
-        at: 0,
-        cut: seen.cut,
-    };
-    if let Err(stop) = take_lines(&mut progress, text, limits) {
+    if let Err(stop) = take_lines(&mut progress, seen.ahead, limits) {
         return Err(refusal_of(stop, seen.past, limits.bytes));
     }
     progress.fill(model);
@@ -118,6 +113,7 @@ impl ModelReader {
     /// Takes the next bytes of the text, and asks for more. `NoMemory` is its only refusal, and each call behind it answers it again.
     pub fn feed(&mut self, bytes: &[u8]) -> Result<Feed, ModelRefusal>
         ensures feeds { Feeds NoMemory self.old.fed bytes.now result self.new.fed }
+        ensures fed { KeepsFed self.old.fed bytes.now result self.new.fed }
         ensures variables { self.new.variables ≡ self.old.variables }
     {
         if self.refused {

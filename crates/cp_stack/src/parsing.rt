@@ -24,12 +24,7 @@ pub fn parse_stack(alloc: Global, bytes: &[u8], limits: &Limits) -> Result<Stack
     ensures few { IfOk result (λ s. s.vars ≤ limits.now.variables) }
 {
     let seen = within(bytes, limits.bytes);
-    let text = Ahead {
-        text: seen.text,
-        at: 0,
-        cut: seen.cut,
-    };
-    let answer = read_document(alloc, text, limits);
+    let answer = read_document(alloc, seen.ahead, limits);
     if seen.past {
         past_limit(answer, limits.bytes)
     } else {

@@ -3,7 +3,7 @@
 ghost use Rattle.std.specs.Prelude.{◌≡◌, [], true, false, Err};
 ghost use Rattle.cp_io.specs.Limits.{IsWithinStandard};
 ghost use Rattle.cp_stack.specs.declared.refusal.StackRefusal.TheVariants.{NoMemory};
-ghost use Rattle.cp_io.specs.Feeding.{Feeds};
+ghost use Rattle.cp_io.specs.Feeding.{Feeds, KeepsFed};
 ghost use Rattle.cp_stack.specs.Reader.{Finishes};
 
 use crate::parsing::parse_stack;
@@ -54,7 +54,8 @@ impl StackReader {
 
     /// Takes the next bytes of the text, and asks for more. `NoMemory` is its only refusal, and each call behind it answers it again.
     pub fn feed(&mut self, bytes: &[u8]) -> Result<Feed, StackRefusal>
-        ensures { Feeds NoMemory self.old bytes.now result self.new }
+        ensures feeds { Feeds NoMemory self.old bytes.now result self.new }
+        ensures fed { KeepsFed self.old bytes.now result self.new }
     {
         if self.refused {
             return Err(StackRefusal::NoMemory);

@@ -1,6 +1,6 @@
 -- Printed numbers, words and lines, as a reader finds them.
 use Rattle.std.proofs.Common.{◌≡◌, ℕ, zero, suc, ◌+◌, ◌-◌, ◌*◌, ◌^◌, ◌<◌, Bool, true, false, eqb, cond, List, [], ◌∷◌, ◌++◌, length, length-append, append_assoc, drop, get_or, Option, Some, refl, ◌∙◌, ap, arith, rules}
-use Rattle.std.specs.Prelude.{◌&&◌, decimal}
+use Rattle.std.specs.Prelude.{decimal}
 use Rattle.std.specs.Option.{option_and_then}
 use Rattle.std.specs.Char.{is_ascii_digit}
 use Rattle.std.specs.List.{list_any}

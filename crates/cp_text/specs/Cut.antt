@@ -34,10 +34,11 @@ lines_within limit text = lines_seen (goes_on (drop limit text)) 0 (take limit t
 
 -- the bytes within a limit, and what is behind them
 pub record IsSeen (limit : ℕ) (input : List ℕ) (seen : Seen) : Type 0 where
-  pub text : seen.text.now ≡ take limit input
-  pub cut : seen.cut ≡ goes_on (drop limit input)
+  pub text : seen.ahead.text.now ≡ take limit input
+  pub start : seen.ahead.at ≡ 0
+  pub cut : seen.ahead.cut ≡ goes_on (drop limit input)
   pub past : seen.past ≡ nat_lt limit (length input)
-  pub lines : lines_within limit input ≡ lines_seen seen.cut 0 seen.text.now
+  pub lines : lines_within limit input ≡ lines_seen seen.ahead.cut seen.ahead.at seen.ahead.text.now
 
 -- What is seen depends on no byte behind the first past the limit.
 abbrev pub SeesWithin : Type 0

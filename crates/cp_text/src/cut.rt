@@ -5,15 +5,14 @@ ghost use Rattle.cp_text.specs.Items.{IsNextSeen};
 ghost use Rattle.cp_text.specs.Ahead.{IsNextWhole};
 ghost use Rattle.cp_text.specs.Cut.{goes_on, IsSeen};
 
+use crate::ahead::Ahead;
 use crate::text::{Item, is_separator, next_item};
 
 /// The bytes of an input within its limit.
 #[derive(Drop)]
 pub struct Seen<'a> {
-    /// The bytes within the limit.
-    pub text: &'a [u8],
-    /// Whether a word goes on right behind them. Then the last word, if it ends where they end, isn't looked at.
-    pub cut: bool,
+    /// The bytes within the limit. Their last word is cut where it goes on right behind them.
+    pub ahead: Ahead<'a>,
     /// Whether the input is longer than the limit.
     pub past: bool,
 }
@@ -24,15 +23,21 @@ pub fn within(input: &[u8], limit: u64) -> Seen<'_>
 {
     if input.len() as u64 <= limit {
         return Seen {
-            text: input,
-            cut: false,
+            ahead: Ahead {
+                text: input,
+                at: 0,
+                cut: false,
+            },
             past: false,
         };
     }
     let (text, behind) = input.split_at(limit as usize);
     Seen {
-        text,
-        cut: begins_in_word(behind),
+        ahead: Ahead {
+            text,
+            at: 0,
+            cut: begins_in_word(behind),
+        },
         past: true,
     }
 }

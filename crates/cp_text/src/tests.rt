@@ -78,8 +78,8 @@ fn limits_are_kept(rt: HostRuntime) -> Result<(), Fail> {
     ];
     for (input, limit, text, cut, past) in rows {
         let seen = within(input.as_bytes(), limit);
-        assert_eq!(rt; seen.text, text.as_bytes(), "{input:?}");
-        assert_eq!(rt; (seen.cut, seen.past), (cut, past), "{input:?}");
+        assert_eq!(rt; seen.ahead.text, text.as_bytes(), "{input:?}");
+        assert_eq!(rt; (seen.ahead.cut, seen.past), (cut, past), "{input:?}");
     }
     Ok(())
 }
