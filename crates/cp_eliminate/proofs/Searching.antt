@@ -6,7 +6,7 @@ use Rattle.cp_logic.specs.declared.settings.Rules.{Rules}
 use Rattle.cp_logic.specs.Entries.{Entry}
 use Rattle.cp_logic.specs.Legality.{tauts, subsumptions, strengthenings, blocks, first_in, first_of_kind}
 use Rattle.cp_find.proofs.Searches.{first_in-kinds, first_of_rest-kinds}
-use Rattle.cp_eliminate.specs.Chosen.{where_chosen}
+use Rattle.cp_find.specs.Chosen.{where_chosen}
 use Rattle.cp_eliminate.specs.Eliminating.{elimination_within}
 
 -- of two answers the first counts, where there is one

@@ -1,4 +1,3 @@
 pub mod Eliminating
 pub mod Sides
-pub mod Chosen
 pub mod Laws

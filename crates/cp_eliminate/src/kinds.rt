@@ -9,7 +9,7 @@ ghost use Rattle.std.specs.Option.{option_map, option_or};
 ghost use Rattle.cp_logic.specs.Legality.{first_in, tauts, subsumptions, strengthenings, blocks, first_of_kind};
 ghost use Rattle.cp_logic.specs.Views.{entry_of};
 ghost use Rattle.cp_find.specs.Past.{IsPast};
-ghost use Rattle.cp_eliminate.specs.Chosen.{where_chosen};
+ghost use Rattle.cp_find.specs.Chosen.{where_chosen};
 ghost use Rattle.cp_eliminate.specs.Eliminating.{elimination_within};
 
 use crate::elimination::try_eliminate;

@@ -13,13 +13,10 @@ use Rattle.cp_logic.specs.Legality.{fits, applies, tauts, subsumptions, strength
 use Rattle.cp_logic.proofs.Members.{in_here, in_later, in_cases, none_in, of_map, of_flat_map}
 use Rattle.cp_logic.proofs.Locals.{find_none, first_in-local}
 use Rattle.cp_logic.proofs.ListFacts.{or-none}
-
--- the answer of a kind, where its technique is chosen
-abbrev pub if_chosen : {X : Type 0} → Bool → Option X → Option X
-if_chosen b o = cond b o None
+use Rattle.cp_find.specs.Chosen.{where_chosen}
 
 -- a search with a test that asks for a choice besides
-find-chosen : {X : Type 0} (b : Bool) (p q : X → Bool) (xs : List X) → ((x : X) → Contains xs x → p x ≡ (b && q x)) → find p xs ≡ if_chosen b (find q xs)
+find-chosen : {X : Type 0} (b : Bool) (p q : X → Bool) (xs : List X) → ((x : X) → Contains xs x → p x ≡ (b && q x)) → find p xs ≡ where_chosen b (find q xs)
 find-chosen true p q [] h = refl
 find-chosen {X} true p q (x ∷ xs) h =
     ap (λ c. cond c (Some x) (find p xs)) (h x (in_here x x xs refl)) ∙ ap (cond (q x) (Some x)) (find-chosen true p q xs (λ y i. h y (in_later y x xs i)))
@@ -32,7 +29,7 @@ swap false true c = refl
 swap false false c = refl
 
 -- two tests of one item, the first of them a choice
-both-chosen : {X : Type 0} (b c : Bool) (x : X) → cond (b && c) (Some x) None ≡ if_chosen b (cond c (Some x) None)
+both-chosen : {X : Type 0} (b c : Bool) (x : X) → cond (b && c) (Some x) None ≡ where_chosen b (cond c (Some x) None)
 both-chosen true c x = refl
 both-chosen false c x = refl
 
@@ -75,7 +72,7 @@ module _ (cs : List Named) (rules : Rules) (next x : ℕ) where
 
   -- the elimination, where it is chosen and fits
   elimination-chosen : find test (elimination cs next x ∷ [])
-      ≡ if_chosen rules.choice.e (cond (fits cs rules.bound (elimination cs next x)) (Some (elimination cs next x)) None)
+      ≡ where_chosen rules.choice.e (cond (fits cs rules.bound (elimination cs next x)) (Some (elimination cs next x)) None)
   unfolding test
   elimination-chosen =
       ap (λ b. cond (b && applies cs rules (elimination cs next x)) (Some (elimination cs next x)) None) (eq-eqb x x refl)
@@ -87,19 +84,19 @@ module _ (cs : List Named) (rules : Rules) (next x : ℕ) where
 
   -- the first over all kinds is that of the first kind that has one
   pub first_in-kinds : first_in cs rules next x
-      ≡ option_or (if_chosen rules.choice.t (first_of_kind x cs (tauts cs)))
-      (option_or (if_chosen rules.choice.s (first_of_kind x cs (subsumptions cs)))
-      (option_or (if_chosen rules.choice.x (first_of_kind x cs (strengthenings cs next))) first_of_rest))
+      ≡ option_or (where_chosen rules.choice.t (first_of_kind x cs (tauts cs)))
+      (option_or (where_chosen rules.choice.s (first_of_kind x cs (subsumptions cs)))
+      (option_or (where_chosen rules.choice.x (first_of_kind x cs (strengthenings cs next))) first_of_rest))
   unfolding first_in candidates test fitting first_of_rest
   first_in-kinds =
       find-append test (tauts cs) (subsumptions cs ++ (strengthenings cs next ++ (blocks cs ++ elimination cs next x ∷ [])))
       ∙ ap (option_or (find test (tauts cs))) (find-append test (subsumptions cs) (strengthenings cs next ++ (blocks cs ++ elimination cs next x ∷ []))
       ∙ ap (option_or (find test (subsumptions cs))) (find-append test (strengthenings cs next) (blocks cs ++ elimination cs next x ∷ [])
       ∙ ap (λ o. option_or o (find test (blocks cs ++ elimination cs next x ∷ []))) (find-chosen rules.choice.x test fitting (strengthenings cs next) strengthening-chosen))
-      ∙ ap (λ o. option_or o (option_or (if_chosen rules.choice.x (find fitting (strengthenings cs next))) (find test (blocks cs ++ elimination cs next x ∷ []))))
+      ∙ ap (λ o. option_or o (option_or (where_chosen rules.choice.x (find fitting (strengthenings cs next))) (find test (blocks cs ++ elimination cs next x ∷ []))))
       (find-chosen rules.choice.s test fitting (subsumptions cs) subsumption-chosen))
-      ∙ ap (λ o. option_or o (option_or (if_chosen rules.choice.s (find fitting (subsumptions cs)))
-      (option_or (if_chosen rules.choice.x (find fitting (strengthenings cs next))) (find test (blocks cs ++ elimination cs next x ∷ [])))))
+      ∙ ap (λ o. option_or o (option_or (where_chosen rules.choice.s (find fitting (subsumptions cs)))
+      (option_or (where_chosen rules.choice.x (find fitting (strengthenings cs next))) (find test (blocks cs ++ elimination cs next x ∷ [])))))
       (find-chosen rules.choice.t test fitting (tauts cs) taut-chosen)
 
   -- what is not chosen does not apply
@@ -124,22 +121,22 @@ module _ (cs : List Named) (rules : Rules) (next x : ℕ) where
 
   -- else the first of them is the first blocked clause, or the elimination where it fits
   pub first_of_rest-kinds : first_of_rest
-      ≡ option_or (if_chosen rules.choice.b (first_of_kind x cs (blocks cs)))
-      (if_chosen rules.choice.e (cond (fits cs rules.bound (elimination cs next x)) (Some (elimination cs next x)) None))
+      ≡ option_or (where_chosen rules.choice.b (first_of_kind x cs (blocks cs)))
+      (where_chosen rules.choice.e (cond (fits cs rules.bound (elimination cs next x)) (Some (elimination cs next x)) None))
   unfolding test fitting first_of_rest
   first_of_rest-kinds =
       find-append test (blocks cs) (elimination cs next x ∷ [])
       ∙ ap (λ o. option_or o (find test (elimination cs next x ∷ []))) (find-chosen rules.choice.b test fitting (blocks cs) block-chosen)
-      ∙ ap (option_or (if_chosen rules.choice.b (find fitting (blocks cs)))) elimination-chosen
+      ∙ ap (option_or (where_chosen rules.choice.b (find fitting (blocks cs)))) elimination-chosen
 
   -- where neither of those is chosen, the first is that of the first of the three kinds that has one
   pub first_in-three : rules.choice.b ≡ false → rules.choice.e ≡ false → first_in cs rules next x
-      ≡ option_or (if_chosen rules.choice.t (first_of_kind x cs (tauts cs)))
-      (option_or (if_chosen rules.choice.s (first_of_kind x cs (subsumptions cs)))
-      (if_chosen rules.choice.x (first_of_kind x cs (strengthenings cs next))))
+      ≡ option_or (where_chosen rules.choice.t (first_of_kind x cs (tauts cs)))
+      (option_or (where_chosen rules.choice.s (first_of_kind x cs (subsumptions cs)))
+      (where_chosen rules.choice.x (first_of_kind x cs (strengthenings cs next))))
   first_in-three b e =
-      first_in-kinds ∙ ap (λ o. option_or (if_chosen rules.choice.t (first_of_kind x cs (tauts cs))) (option_or (if_chosen rules.choice.s (first_of_kind x cs (subsumptions cs))) o))
-      (ap (option_or (if_chosen rules.choice.x (first_of_kind x cs (strengthenings cs next)))) (first_of_rest-none b e) ∙ or-none _)
+      first_in-kinds ∙ ap (λ o. option_or (where_chosen rules.choice.t (first_of_kind x cs (tauts cs))) (option_or (where_chosen rules.choice.s (first_of_kind x cs (subsumptions cs))) o))
+      (ap (option_or (where_chosen rules.choice.x (first_of_kind x cs (strengthenings cs next)))) (first_of_rest-none b e) ∙ or-none _)
 
 -- ---- where one kind alone is chosen
 

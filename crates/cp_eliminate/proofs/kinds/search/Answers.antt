@@ -5,7 +5,7 @@ use Rattle.cp_logic.specs.declared.entries.Entry.{Entry as HeldEntry}
 use Rattle.cp_logic.specs.Entries.{Entry}
 use Rattle.cp_logic.specs.Legality.{first_in}
 use Rattle.cp_logic.specs.Views.{entry_of}
-use Rattle.cp_eliminate.specs.Chosen.{where_chosen}
+use Rattle.cp_find.specs.Chosen.{where_chosen}
 use Rattle.cp_eliminate.specs.Eliminating.{elimination_within}
 use Rattle.cp_eliminate.proofs.Searching.{is-taut, is-of-two, is-blocked, after-blocked}
 use Rattle.cp_eliminate.proofs.kinds.search.Goals as goal
