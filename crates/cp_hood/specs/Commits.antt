@@ -10,10 +10,10 @@ use Rattle.cp_logic.specs.Sweeps.{is_spent}
 use Rattle.cp_book.specs.Empties.{least_empty}
 use Rattle.cp_book.specs.Answers.{passes_numbers, answer_to, Posted}
 use Rattle.cp_book.specs.Views.{BookView, current}
-use Rattle.cp_occ.specs.Cells.{CellView, variables_of, lists_of}
+use Rattle.cp_occ.specs.Cells.{variables_of, lists_of}
 use Rattle.cp_occ.specs.Changes.{lists_after}
 use Rattle.cp_yard.specs.declared.yard.Receipt.{Receipt}
-use Rattle.cp_yard.specs.Views.{Base, Note, GotTurn, MetTurn, SeatView, base_of}
+use Rattle.cp_yard.specs.Views.{Base, Note, GotTurn, MetTurn, base_of}
 use Rattle.cp_hood.specs.declared.answers.CommitAnswer.{CommitAnswer}
 use Rattle.cp_hood.specs.declared.answers.CommitAnswer.TheVariants.{TurnHeld, Refuted, Spent, Numbers, NoMemory}
 use Rattle.cp_hood.specs.Hoods.{HoodView, centre_clauses}

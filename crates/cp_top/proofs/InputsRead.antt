@@ -6,7 +6,6 @@ use Rattle.std.specs.Io.KnownBytes.{prepend_known, IsAtEnd}
 use Rattle.std.proofs.Math.Nat.{eq-or-lt_of_le}
 use Rattle.std.proofs.lemmas.List.{append-nil, take-append-le, take_all}
 use Rattle.cp_io.specs.declared.role.Role.TheVariants.{Cnf, Stack, Model}
-use Rattle.cp_io.specs.declared.role.Role.TheVariants as roles
 use Rattle.cp_io.specs.Limits.{standard_limits}
 use Rattle.cp_io.specs.Port.{Ports, AtRole}
 use Rattle.cp_logic.specs.declared.pairs.Stack.{Stack as HeldStack}

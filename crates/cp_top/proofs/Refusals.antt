@@ -1,11 +1,8 @@
 -- The refusals of a run of `simplify` before its work: words, binds, and the input.
 use Rattle.std.proofs.Common.{◌≡◌, ◌≢◌, ℕ, List, Ok, Err, inr}
-use Rattle.cp_io.specs.declared.role.Role.TheVariants.{Cnf}
 use Rattle.cp_io.specs.Port.{Ports}
 use Rattle.cp_logic.specs.Slots.{Held}
-use Rattle.cp_dimacs.specs.declared.refusal.CnfRefusal.TheVariants as cnf
 use Rattle.cp_words.specs.declared.words.UsageKind.TheVariants as kind
-use Rattle.cp_words.specs.declared.words.WordsRefusal.TheVariants as words
 use Rattle.cp_words.specs.Words.{Simplify, simplify_options}
 use Rattle.cp_top.specs.declared.outcome.Outcome.TheVariants.{Refused}
 use Rattle.cp_top.specs.declared.outcome.Refusal.{Refusal}

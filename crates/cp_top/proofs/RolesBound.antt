@@ -8,7 +8,7 @@ use Rattle.cp_io.specs.declared.desk.Failed.{Failed}
 use Rattle.cp_io.specs.declared.role.Role.{Role}
 use Rattle.cp_io.specs.declared.role.Way.{Way}
 use Rattle.cp_io.specs.Roles.{role_index, same_role}
-use Rattle.cp_io.specs.Port.{Port, Ports, AtRole, Binds, NothingBound, Rose}
+use Rattle.cp_io.specs.Port.{Port, Ports, AtRole, Binds, Rose}
 use Rattle.cp_io.proofs.RoleCases.{role_cases, role_index-apart, kept}
 use Rattle.cp_top.specs.Bindings.{Binding, bind, binding_of, way_of, before, OnlyBinds, BoundSoFar, FailedToBind}
 
@@ -61,14 +61,6 @@ only-then a b c m n = record {
 any-name : (role : Role) (o : Option (List ℕ)) → IfSome o (λ told. IfSome (binding_of [] role) (λ b. told ≡ b.name))
 any-name role None = tt
 any-name role (Some told) = tt
-
-pub none-bound : (ports : Ports) → NothingBound ports → BoundSoFar [] ports ports
-none-bound ports n = record {
-  bound = record { ways = n; names = λ role. any-name role (ports role).name };
-  rest = record { left = λ r. refl; held = λ r. refl; read_faults = λ r. refl; write_faults = λ r. refl };
-  others = λ r none. refl;
-  steady = λ r. refl;
-}
 
 -- the role that is bound next isn't bound yet
 pub unbound-next : (bs : List Binding) (role : Role) (old mid : Ports) → BoundSoFar bs old mid → binding_of bs role ≡ None → (mid role).way ≡ None

@@ -21,7 +21,6 @@ use Rattle.cp_drat.specs.Text.{log_text}
 use Rattle.cp_stack.specs.Text.{stack_text}
 use Rattle.cp_summary.specs.declared.sizes.Sizes.{Sizes}
 use Rattle.cp_summary.specs.Text.{sizes_of}
-use Rattle.cp_words.specs.declared.words.UsageKind.TheVariants as kind
 use Rattle.cp_words.specs.Words.{Simplify, simplify_options}
 use Rattle.cp_top.specs.declared.outcome.Outcome.{Outcome}
 use Rattle.cp_top.specs.declared.outcome.Outcome.TheVariants.{Done, Extended, Generated, Refused}

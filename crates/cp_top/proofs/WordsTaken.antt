@@ -5,12 +5,11 @@ use Rattle.cp_words.specs.declared.words.UsageKind.{UsageKind}
 use Rattle.cp_words.specs.declared.words.UsageKind.TheVariants as kind
 use Rattle.cp_words.specs.declared.words.WordsRefusal.{WordsRefusal}
 use Rattle.cp_words.specs.declared.words.WordsRefusal.TheVariants as refusal
-use Rattle.cp_words.specs.Words.{simplify_options, extend_options, generate_options}
-use Rattle.cp_words.specs.Answers.{Answers, simplify_seen, extend_seen, generate_seen}
+use Rattle.cp_words.specs.Words.{extend_options, generate_options}
+use Rattle.cp_words.specs.Answers.{Answers, extend_seen, generate_seen}
 use Rattle.cp_top.specs.declared.outcome.Outcome.TheVariants.{Refused}
 use Rattle.cp_top.specs.declared.outcome.Refusal.{Refusal}
 use Rattle.cp_top.specs.Refused.{WordsRefused}
-use Rattle.cp_top.specs.Run.{HasCause}
 use Rattle.cp_top.specs.Extension.{HasExtendCause}
 use Rattle.cp_top.specs.Generation.{HasGenerateCause}
 
@@ -18,10 +17,6 @@ pub not-command : {V : Type 0} (given : Result V UsageKind) (o : V) → given �
 not-command given o taken e = cc
 
 module _ (words : List (List ℕ)) (old new : Ports) where
-  pub simplify-refused : (w : WordsRefusal) (r : Refusal) → Answers simplify_seen (simplify_options words) (Err w) → WordsRefused w r → HasCause words old new (Refused r)
-  simplify-refused (refusal.Usage kind) r a is = rw is a
-  simplify-refused refusal.NoMemory r a is = rw is a
-
   pub extend-refused : (w : WordsRefusal) (r : Refusal) → Answers extend_seen (extend_options words) (Err w) → WordsRefused w r → HasExtendCause words old new (Refused r)
   extend-refused (refusal.Usage kind) r a is = rw is a
   extend-refused refusal.NoMemory r a is = rw is a

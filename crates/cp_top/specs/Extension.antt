@@ -2,7 +2,7 @@
 use Rattle.std.specs.Prelude.{◌≡◌, ◌≢◌, ℕ, List, [], Bool, Ok, Err, IsOk}
 use Rattle.cp_io.specs.declared.limits.Limit.{Limit}
 use Rattle.cp_io.specs.declared.role.Role.{Role}
-use Rattle.cp_io.specs.declared.role.Role.TheVariants.{Stack, Model, Full}
+use Rattle.cp_io.specs.declared.role.Role.TheVariants.{Stack, Model}
 use Rattle.cp_io.specs.Port.{Ports}
 use Rattle.cp_logic.specs.Assignments.{completed}
 use Rattle.cp_logic.specs.Journals.{Post}

@@ -1,6 +1,6 @@
 -- A visit, commit by commit.
 use Rattle.std.proofs.Common.{◌≡◌, ◌<◌, ℕ, ◌+◌, List, [], ◌∷◌, ◌++◌, length, append_assoc, append-nil, Option, Some, None, inl, inr, refl, sym, ◌∙◌, ap, subst}
-use Rattle.std.specs.Prelude.{IsTrue, Result, Err, IfOk}
+use Rattle.std.specs.Prelude.{IsTrue, Result, IfOk}
 use Rattle.std.specs.List.{All}
 use Rattle.std.proofs.lemmas.List.{map-append}
 use Rattle.std.proofs.lemmas.Grind.{flat_map-append}
@@ -18,11 +18,11 @@ use Rattle.cp_logic.specs.Locality.{after}
 use Rattle.cp_yard.specs.Views.{Base, Note, Got, GotTurn, Met, MetTurn, SeatView}
 use Rattle.cp_hood.specs.Hoods.{HoodView, centre_clauses}
 use Rattle.cp_hood.specs.Seats.{GoesOn, EndWith, met_turns}
-use Rattle.cp_hood.specs.Commits.{left_by, post_after, GetsTurn, IsCommit}
+use Rattle.cp_hood.specs.Commits.{left_by, post_after, GetsTurn}
 use Rattle.cp_hood.proofs.Going.{GoesOn-none, GoesOn-then}
 use Rattle.cp_hood.specs.Tries.{IsWhole, IsCut, IsTooWide, gots, other_cells}
 use Rattle.cp_hood.specs.declared.answers.CommitAnswer.{CommitAnswer}
-use Rattle.cp_hood.specs.declared.answers.CommitAnswer.TheVariants.{TurnHeld, Refuted, Spent, Numbers, NoMemory}
+use Rattle.cp_hood.specs.declared.answers.CommitAnswer.TheVariants.{TurnHeld, Refuted, Spent, Numbers}
 use Rattle.cp_worker.specs.declared.answer.AtAnswer.{AtAnswer}
 use Rattle.cp_worker.specs.declared.answer.AtAnswer.TheVariants.{Settled, Busy, Wide, TurnHeld as Late, Stopped}
 use Rattle.cp_worker.specs.Visits.{positions, commits_of, clauses_after, hood_tries, turn_tries, IsPostOf, AreTurns, AreCommits, IsHeld, notes_of, EndsLocked, EndsVisit, IsVisit}
@@ -124,15 +124,6 @@ caused-spent len commits f x cs e turns last posted all found (h, r, stop) = (e,
 
 pub caused-numbers : (next : ℕ) (commits : Roomy ℕ) → IsCauseOf (Numbers next) (Stopped ForNumbers commits)
 caused-numbers next commits f x cs e turns last posted all found (h, r, stop) = (e, h, turns, last, refl, all, r, found, stop)
-
--- what a commit that was refused says of it
-pub refusal-of : (f : Base) (worker in_round : ℕ) (e : Entry) (old new : HoodView) (notes : List Note) (posts : List (ℕ × Post)) (a : CommitAnswer)
-    → IsCommit f worker in_round turn_tries e old new notes posts (Err a) → (posts ≡ []) × IsRefusal f e notes a
-refusal-of f worker in_round e old new notes posts (TurnHeld by) (m, p, s) = (p, m)
-refusal-of f worker in_round e old new notes posts (Refuted empty) (h, t, l, stop, p, s) = (p, (h, t, stop))
-refusal-of f worker in_round e old new notes posts (Spent len) (h, t, l, stop, p, s) = (p, (h, t, stop))
-refusal-of f worker in_round e old new notes posts (Numbers next) (h, t, l, stop, p, s) = (p, (h, t, stop))
-refusal-of f worker in_round e old new notes posts NoMemory (h, t, p, s) = (p, tt)
 
 pub refused-goes : (v w u : SeatView) (x in_round : ℕ) (cs now : List Named) (listed : List ℕ) (noted : List Note) (posted : List (ℕ × Post)) (way : IsUnderWay v w x in_round cs now listed)
     → GoesOn w u noted posted → posted ≡ [] → GoesOn v u (way.noted ++ noted) way.posted

@@ -1,4 +1,4 @@
-use Rattle.std.proofs.Common.{◌+◌, [], ◌∷◌, ◌++◌, length-append, refl, ap, ◌∙◌, arith}
+use Rattle.std.proofs.Common.{[], ◌∷◌, ◌++◌, length-append, refl, ap, ◌∙◌, arith}
 use Rattle.cp_yard.specs.Views.{MetTurn, noted}
 use Rattle.cp_hood.proofs.Turns.{noted-none, noted-push}
 use Rattle.cp_hood.proofs.posting.take_turn.Goals as goal
