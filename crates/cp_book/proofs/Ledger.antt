@@ -1,8 +1,10 @@
 -- A ledger with one post more.
-use Rattle.std.proofs.Common.{◌≡◌, ℕ, ◌+◌, ◌<◌, ◌≤◌, true, false, not, List, [], ◌∷◌, ◌++◌, length, Option, Some, None, cond, refl, sym, ◌∙◌, ap, subst, inl, inr, arith}
+use Rattle.std.proofs.Common.{◌≡◌, ℕ, ◌+◌, ◌<◌, ◌≤◌, true, false, not, List, [], ◌∷◌, ◌++◌, length, Option, None, cond, refl, sym, ◌∙◌, ap, subst, inl, inr, arith}
 use Rattle.std.specs.Prelude.{◌⊎◌, ◌==◌}
 use Rattle.std.proofs.lemmas.Bool.{cases_eq, ltb-false, false≢true, eq-eqb, ne_eqb, not_from_false, and_from}
 use Rattle.std.proofs.lemmas.List.Sums.{sum_by_push}
+use Rattle.std.proofs.lemmas.Option.{none-some}
+use Rattle.std.proofs.Math.Seq.{take-length}
 use Rattle.cp_logic.specs.declared.settings.Rules.{Rules}
 use Rattle.cp_logic.specs.Assignments.{Pair}
 use Rattle.cp_logic.specs.Formulas.{Formula, IsFormula, numbers_of}
@@ -11,7 +13,7 @@ use Rattle.cp_logic.specs.Entries.{Entry, expand, new_clauses, gone_clauses, num
 use Rattle.cp_logic.specs.Legality.{is_legal_in}
 use Rattle.cp_logic.specs.Journals.{Post, MayFollow, IsLegalJournal, folded, expansion, start_of, commits, number_limit}
 use Rattle.cp_logic.specs.Sweeps.{is_spent}
-use Rattle.cp_logic.proofs.JournalRuns.{take-whole, folded-push, valid_to, IsLegalJournal-push}
+use Rattle.cp_logic.proofs.JournalRuns.{folded-push, valid_to, IsLegalJournal-push}
 use Rattle.cp_logic.proofs.Changes.{clauses-expand_in}
 use Rattle.cp_logic.proofs.Runs.{variables-state_after}
 use Rattle.cp_book.specs.Empties.{least_empty}
@@ -24,7 +26,7 @@ use Rattle.cp_book.proofs.Commits.{after-next, count-numbered, numbered-again, l
 -- what a legal journal leads to is a formula
 pub IsFormula-folded : (first : Formula) (rules : Rules) (posts : List Post) → IsFormula first → IsLegalJournal first rules posts → IsFormula (folded first posts).formula
 IsFormula-folded first rules posts v legal =
-    subst (λ ps. IsFormula (folded first ps).formula) (take-whole posts) (valid_to first rules posts v legal (length posts) (omega arith))
+    subst (λ ps. IsFormula (folded first ps).formula) (take-length posts) (valid_to first rules posts v legal (length posts) (omega arith))
 
 -- it is over the same variables
 variables-folded : (first : Formula) (posts : List Post) → (folded first posts).formula.variables ≡ first.variables
@@ -53,7 +55,7 @@ pub IsLedger-start : (first : Formula) (rules : Rules) (stack_variables : ℕ) (
 unfolding folded
 IsLedger-start first rules stack_variables least v w e = record {
   valid = v;
-  legal = λ k p h. absurd (no p h);
+  legal = λ k p h. absurd (none-some p h);
   formula = refl;
   pairs = refl;
   variables = w;
@@ -61,9 +63,6 @@ IsLedger-start first rules stack_variables least v w e = record {
   in_budget = inr (omega arith);
   empty = e;
 }
-  where
-    no : (p : Post) → None ≡ Some p → ⊥
-    no p h = cc
 
 -- what is known before a post
 pub record IsTested (b : BookView) (e : Entry) : Type 0 where

@@ -4,6 +4,7 @@ use Rattle.std.specs.Prelude.{◌==◌}
 use Rattle.std.specs.Option.{option_map}
 use Rattle.std.specs.List.{Contains}
 use Rattle.std.proofs.lemmas.Bool.{false_from_ne_true, eqb-true, eqb-false}
+use Rattle.std.proofs.Math.Bool.{or-false}
 use Rattle.cp_logic.specs.declared.named.Named.{Named}
 use Rattle.cp_logic.specs.Clauses.{IsAscending}
 use Rattle.cp_logic.specs.Formulas.{numbers_of, find_number}
@@ -11,7 +12,6 @@ use Rattle.cp_logic.specs.Legality.{same_literals, stands}
 use Rattle.cp_logic.proofs.Members.{in_map}
 use Rattle.cp_logic.proofs.Ascending.{below_others}
 use Rattle.cp_logic.proofs.Parts.{stands-in}
-use Rattle.cp_logic.proofs.Changes.{or-false}
 
 -- whether the clause that was found is this one
 abbrev is_found : Option (List ℕ) → List ℕ → Bool

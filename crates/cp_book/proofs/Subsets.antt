@@ -59,11 +59,6 @@ module _ (lit : ℕ) (l : ℕ) (ls rest : List ℕ) (a : IsAscending (l ∷ ls))
   pub subset-without_none : literals_from l rest ≡ [] → is_subset (without (l ∷ ls) lit) rest ≡ false
   subset-without_none e = reduced ∙ ap (is_subset (l ∷ without ls lit)) e
 
--- a list of no length
-pub no_items : (xs : List ℕ) → length xs ≡ 0 → xs ≡ []
-no_items [] h = refl
-no_items (x ∷ xs) h = absurd (omega arith)
-
 -- where a pass stands: the literals from the index on, against what is left
 pub record Passing (smaller : List ℕ) (lit : ℕ) (larger : List ℕ) (index : ℕ) (rest : List ℕ) : Type 0 where
   pub left : is_subset (without smaller lit) larger ≡ is_subset (without (drop index smaller) lit) rest

@@ -1,10 +1,11 @@
 -- Each step of a seat keeps the rule, and what the rule says of the last seat.
-use Rattle.std.proofs.Common.{◌≡◌, ◌≢◌, ℕ, ◌+◌, ◌%◌, ◌^◌, ◌<◌, ◌≤◌, min, Bool, true, false, List, [], ◌∷◌, ◌++◌, length, get_or, set, Some, None, sym, refl, ap, ◌∙◌, subst, ⊎_elim, arith, length-set, length-append, mod-eq_of_lt, if◌then◌else◌, true≢false, get_or-set_same}
+use Rattle.std.proofs.Common.{◌≡◌, ◌≢◌, ℕ, ◌+◌, ◌%◌, ◌^◌, ◌<◌, ◌≤◌, min, Bool, true, false, List, [], ◌∷◌, ◌++◌, length, get_or, set, sym, refl, ap, ◌∙◌, subst, ⊎_elim, arith, length-set, length-append, mod-eq_of_lt, if◌then◌else◌, true≢false, get_or-set_same}
 use Rattle.std.specs.Prelude.{All, sum_by, is_some, ◌==◌}
 use Rattle.std.proofs.lemmas.List.Elements.{All-nil, All-cons, All-tail, All-append}
 use Rattle.std.proofs.lemmas.List.Sums.{sum_by-cons, sum_by-append, sum_by_push, sum_by-le-sum_by, count_by-le-length}
 use mathlib.Core.Option.{some, none, some-injective, some-ne-none}
 use mathlib.Core.Logic.{dite}
+use Rattle.std.proofs.lemmas.Option.{none-some, same_Some}
 use native.Mathlib.Decide.{dec_le}
 use lib.ListN.{get_elem?}
 use Rattle.atomic_table.specs.Table.{State, Me, step, keeps, stepped, Allows, Splits, Joins, Final, Seen}
@@ -82,13 +83,10 @@ module _ (n : ℕ) where
       drawn_one n s r id v w at record { was = lives; is = lives; limit = refl; number = refl; made = refl; named = λ k. ap (times_named k) is ∙ sym (ap (times_named k) was); long = ap length is ∙ sym (ap length was) }
       (λ x. let same : once_below x (min n (x₀ + 1)) ≡ once_below x (min n x₀) = ap (once_below x) flat in omega arith)
       (subst (All (HasRead n (x₀ + 1))) (sym is) (All-cons (HasRead n (x₀ + 1)) w.mine v.others
-      (λ e q. let same : x₀ ≡ e = some_is x₀ e q in (omega arith, omega arith))
+      (λ e q. let same : x₀ ≡ e = same_Some x₀ e q in (omega arith, omega arith))
       (All-tail (HasRead n (x₀ + 1)) v.mine v.others (read_before n x₀ (x₀ + 1) (all_shares v) (omega arith) (subst (All (HasRead n x₀)) was (r.ended id v at))))))
       (let f : Share → ℕ = λ k. if is_some k.end then 1 else 0 in let after : ends (shares_of w) ≡ 1 + ends v.others = ap ends is ∙ sum_by-cons f w.mine v.others in
       let none_yet : f v.mine ≡ 0 = ap (λ (b : Bool). if b then 1 else 0) fresh in let before : ends (shares_of v) ≡ f v.mine + ends v.others = ap ends was ∙ sum_by-cons f v.mine v.others in omega arith)
-    where
-      some_is : (a b : ℕ) → Some a ≡ Some b → a ≡ b
-      some_is a b e = grind arith
 
   pub draws : (slots id : ℕ) (me : Me (Unit {0}) View) → me.0.lives ≡ true → is_some me.0.mine.end ≡ false → Allows (GivesEachOnce n) slots id me 0 (λ x. (x + 1) % 2 ^ 64) (Draws (step slots 0 1 0 none) me)
   draws slots id me lives fresh s r _ at _ = let v : View = me.0 in let ok = r.seats id v at lives in let x₀ : ℕ = word_of s in let limit = ok.limit in
@@ -134,13 +132,10 @@ module _ (n : ℕ) where
         ended = λ j d there. ⊎_elim
             (λ (old : get_elem? vs j ≡ some d). each_of_set (λ i y. All (HasRead n (word_of s)) (shares_of y)) s.views id left (r.ended id v at) (λ i y ne at_i. r.ended i y at_i) j d old)
             (λ (new : (j ≡ length vs) × (right ≡ d)). subst (λ (y : View). All (HasRead n (word_of s)) (shares_of y)) new.1
-            (All-cons (HasRead n (word_of s)) right.mine [] (λ e q. absurd (none_is e q)) (All-nil (HasRead n (word_of s)))))
+            (All-cons (HasRead n (word_of s)) right.mine [] (λ e q. absurd (none-some e q)) (All-nil (HasRead n (word_of s)))))
             (at_end vs right d j there);
         steps = let F : View → ℕ = λ z. ends (shares_of z) in let a = sum_by_push F vs right in let b = sum_by-set_at F s.views id v left at in let c = r.steps in let e : F left ≡ F v = refl in let g : F right ≡ 0 = refl in omega arith;
       }
-    where
-      none_is : (a : ℕ) → None ≡ Some a → ⊥
-      none_is a e = grind arith
 
   pub joins : (id : ℕ) (v : View) (other : ℕ) (w : View) → v.lives ≡ true → w.lives ≡ true → Joins (GivesEachOnce n) id v other w (joined v w) spent
   joins id v other w lives lives' s r at apart there = let both : View = joined v w in let ok = r.seats id v at lives in let c₀ : ℕ = length s.views in let vs : List View = set s.views id both in let views' : List View = set vs other spent in

@@ -4,6 +4,7 @@ use Rattle.std.specs.List.{Contains}
 use Rattle.std.proofs.lemmas.List.{map-append}
 use Rattle.std.proofs.lemmas.Bool.{cases_Bool, false≢true, cases_eq}
 use Rattle.std.proofs.lemmas.List.Elements.{Contains-append_left}
+use Rattle.std.proofs.Math.Seq.{take-length}
 use Rattle.cp_logic.specs.declared.named.Named.{Named}
 use Rattle.cp_logic.specs.declared.settings.Rules.{Rules}
 use Rattle.cp_logic.specs.Literals.{negated, positive, negative}
@@ -20,7 +21,7 @@ use Rattle.cp_logic.proofs.Parts.{IsEliminate, strengthen-parts, eliminate-parts
 use Rattle.cp_logic.proofs.Expansions.{in_clauses, ascending_at, strengthen-rup}
 use Rattle.cp_logic.proofs.Eliminations.{rup-larger, of_pos, of_neg, of_new}
 use Rattle.cp_logic.proofs.EntryRuns.{legal-in}
-use Rattle.cp_logic.proofs.JournalRuns.{take-one_more, take-whole, expansion-push, valid_to}
+use Rattle.cp_logic.proofs.JournalRuns.{take-one_more, expansion-push, valid_to}
 
 -- what the rule adds is RUP
 abbrev AdditionIsRup : Formula → Rule → Type 0
@@ -106,4 +107,4 @@ module _ (f : Formula) (rules : Rules) (posts : List Post) (v : IsFormula f) (le
       (AdditionsAreRup-append (start_of f) (expansion (take n posts)) (expand r.0.entry) before step)
 
   pub journal-rup : AdditionsAreRup (start_of f) (expansion posts)
-  journal-rup = subst (λ ps. AdditionsAreRup (start_of f) (expansion ps)) (take-whole posts) (rup_to (length posts) (omega arith))
+  journal-rup = subst (λ ps. AdditionsAreRup (start_of f) (expansion ps)) (take-length posts) (rup_to (length posts) (omega arith))

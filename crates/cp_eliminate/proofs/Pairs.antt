@@ -5,6 +5,7 @@ use Rattle.std.specs.List.{filter, flat_map}
 use Rattle.std.proofs.lemmas.List.{length-append, map-append, take_more}
 use Rattle.std.proofs.lemmas.List.Elements.{filter-append}
 use Rattle.std.proofs.lemmas.Bool.{leb-true, le-leb}
+use Rattle.std.proofs.lemmas.List.Concat.{flat_map-append}
 use Rattle.cp_logic.specs.declared.named.Named.{Named}
 use Rattle.cp_logic.specs.Literals.{positive}
 use Rattle.cp_logic.specs.Clauses.{is_tautology, resolvent}
@@ -22,10 +23,6 @@ take-item xs i x h e = take_more xs i x h ∙ ap (λ y. take i xs ++ y ∷ []) (
 pub resolvents-cons : (x : ℕ) (c : Named) (pos neg : List Named) → resolvents x (c ∷ pos) neg ≡ resolvents_by (positive x) c.clause neg ++ resolvents x pos neg
 resolvents-cons x c pos neg =
     filter-append (λ r. not (is_tautology r)) (map (λ d. resolvent (positive x) c.clause d.clause) neg) (flat_map (λ c. map (λ d. resolvent (positive x) c.clause d.clause) neg) pos)
-
-flat_map-append : {X Y : Type 0} (f : X → List Y) (xs ys : List X) → flat_map f (xs ++ ys) ≡ flat_map f xs ++ flat_map f ys
-flat_map-append f [] ys = refl
-flat_map-append f (x ∷ xs) ys = ap (λ zs. f x ++ zs) (flat_map-append f xs ys) ∙ sym (append_assoc (f x) (flat_map f xs) (flat_map f ys))
 
 -- with one more clause, they are those so far and then those of that clause
 pub resolvents-push : (x : ℕ) (pos : List Named) (c : Named) (neg : List Named) → resolvents x (pos ++ c ∷ []) neg ≡ resolvents x pos neg ++ resolvents_by (positive x) c.clause neg

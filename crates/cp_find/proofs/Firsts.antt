@@ -4,6 +4,7 @@ use Rattle.std.specs.Prelude.{◌==◌}
 use Rattle.std.specs.Option.{option_map, option_and_then}
 use Rattle.std.specs.List.{Contains, find, flat_map}
 use Rattle.std.proofs.lemmas.Bool.{and_parts, and_from, false≢true, eqb-true, eqb-false, eq-eqb, ne_eqb, not-true, not_from_false, false_from_ne_true, cases_eq}
+use Rattle.std.proofs.lemmas.Option.{none-some, same_Some}
 use Rattle.cp_logic.specs.declared.named.Named.{Named}
 use Rattle.cp_logic.specs.Literals.{negated, positive, negative, variable_of}
 use Rattle.cp_logic.specs.Clauses.{contains, is_subset, is_tautology, without}
@@ -63,22 +64,16 @@ struck-cases x clause below above a b e d p q =
 pub alone : (x : ℕ) (clause : List ℕ) (l : ℕ) → struck x clause ≡ Some l → (variable_of l ≡ x) × (contains clause (negated l) ≡ true) × (contains clause l ≡ false)
 alone x clause l e = go (contains clause (positive x)) (contains clause (negative x)) refl refl e
   where
-    inside : (a b : ℕ) → Some a ≡ Some b → a ≡ b
-    inside a b q = cc
-
-    none_some : (a : ℕ) → None ≡ Some a → ⊥
-    none_some a q = cc
-
     at : (m : ℕ) → m ≡ l → variable_of m ≡ x → contains clause (negated m) ≡ true → contains clause m ≡ false → (variable_of l ≡ x) × (contains clause (negated l) ≡ true) × (contains clause l ≡ false)
     at m q v n f = (ap variable_of (sym q) ∙ v, ap (λ k. contains clause (negated k)) (sym q) ∙ n, ap (contains clause) (sym q) ∙ f)
 
     go : (a b : Bool) → contains clause (positive x) ≡ a → contains clause (negative x) ≡ b
         → cond a (cond b None (Some (negative x))) (cond b (Some (positive x)) None) ≡ Some l
         → (variable_of l ≡ x) × (contains clause (negated l) ≡ true) × (contains clause l ≡ false)
-    go true true p n q = absurd (none_some l q)
-    go true false p n q = at (negative x) (inside (negative x) l q) (variable_of-negative x) (ap (contains clause) (negated-negative x) ∙ p) n
-    go false true p n q = at (positive x) (inside (positive x) l q) (variable_of-positive x) (ap (contains clause) (negated-positive x) ∙ n) p
-    go false false p n q = absurd (none_some l q)
+    go true true p n q = absurd (none-some l q)
+    go true false p n q = at (negative x) (same_Some (negative x) l q) (variable_of-negative x) (ap (contains clause) (negated-negative x) ∙ p) n
+    go false true p n q = at (positive x) (same_Some (positive x) l q) (variable_of-positive x) (ap (contains clause) (negated-positive x) ∙ n) p
+    go false false p n q = absurd (none-some l q)
 
 -- a clause with no literal alone at the variable has none there, or both
 not_alone : (x : ℕ) (clause : List ℕ) (l : ℕ) → struck x clause ≡ None → variable_of l ≡ x → contains clause (negated l) ≡ true → contains clause l ≡ true
@@ -91,17 +86,14 @@ not_alone x clause l e v n = elim (same_variable l (positive x) (v ∙ sym (vari
       (ap (contains clause) (sym (negated-negative x)) ∙ ap (λ k. contains clause (negated k)) (sym r) ∙ n) refl e
 ]
   where
-    some_none : (a : ℕ) → Some a ≡ None → ⊥
-    some_none a q = cc
-
     below : (a b : Bool) → contains clause (positive x) ≡ a → b ≡ true → cond a (cond b None (Some (negative x))) (cond b (Some (positive x)) None) ≡ None → contains clause (positive x) ≡ true
     below true b p t q = p
-    below false true p t q = absurd (some_none (positive x) q)
+    below false true p t q = absurd (none-some (positive x) (sym q))
     below false false p t q = absurd (false≢true t)
 
     above : (a b : Bool) → a ≡ true → contains clause (negative x) ≡ b → cond a (cond b None (Some (negative x))) (cond b (Some (positive x)) None) ≡ None → contains clause (negative x) ≡ true
     above true true t p q = p
-    above true false t p q = absurd (some_none (negative x) q)
+    above true false t p q = absurd (none-some (negative x) (sym q))
     above false b t p q = absurd (false≢true t)
 
 -- the negation is turned, and each other literal stays

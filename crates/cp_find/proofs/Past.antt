@@ -5,7 +5,7 @@ use Rattle.std.specs.Option.{option_map, option_and_then, option_or}
 use Rattle.std.specs.List.{Contains, find, filter}
 use Rattle.std.proofs.lemmas.Bool.{eq-eqb, ne_eqb, cases_eq}
 use Rattle.std.proofs.lemmas.Bool.Decides.{nat_tests}
-use Rattle.std.proofs.lemmas.Option.{none-some}
+use Rattle.std.proofs.lemmas.Option.{none-some, same_Some}
 use Rattle.std.proofs.lemmas.List.Elements.{Contains-append_cases}
 use Rattle.cp_logic.specs.declared.named.Named.{Named}
 use Rattle.cp_logic.specs.Clauses.{is_tautology, has_variable, IsAscending}
@@ -143,11 +143,8 @@ module _ (p : Named → Bool) where
       let m = first-owner (chosen p) cs d a (find-chosen p cs ∙ h) in
       chosen-none p b (m.3 b i (subst (λ (z : Named). b.number < z.number) (sym (same m.0 (p m.0) m.2)) l))
     where
-      inside : (c : Named) → Some c ≡ Some d → c ≡ d
-      inside c q = cc
-
       same : (c : Named) (b : Bool) → cond b (Some c) None ≡ Some d → c ≡ d
-      same c true q = inside c q
+      same c true q = same_Some c d q
       same c false q = absurd (none-some d q)
 
   pub find-each : (cs : List Named) → find p cs ≡ None → (b : Named) → Contains cs b → p b ≡ false
@@ -160,9 +157,6 @@ module _ (p : Named → Bool) where
 -- a number that is not from n on is below it
 below-from : (n m : ℕ) → nat_le n m ≡ false → m < n
 below-from n m e = grind (arith, nat_tests)
-
-from-above : (n m : ℕ) → nat_le n m ≡ true → n ≤ m
-from-above n m e = grind (arith, nat_tests)
 
 -- from 0 on all are left
 pub all-from_zero : (n : ℕ) (cs : List Named) → n ≤ 0 → from_number n cs ≡ cs
@@ -240,9 +234,6 @@ module _ (test : Named → Named → Bool) (answer : List Named → Named → Op
   pairs-found e a h by other i j l =
       let m = first-owner (answer cs) cs e a h in go m.0 m.1 m.2 m.3 (find (test m.0) cs) refl
     where
-      inside : (d : Entry) → Some d ≡ Some e → d ≡ e
-      inside d q = cc
-
       earlier : (o : Option Named) → find (test by) cs ≡ o → answer cs by ≡ None → test by other ≡ false
       earlier None q n = find-each (test by) cs q other j
       earlier (Some o) q n = let m = ties.some cs by o q in absurd (none-some m.0 (sym n ∙ m.1))
@@ -252,7 +243,7 @@ module _ (test : Named → Named → Bool) (answer : List Named → Named → Op
       go c k q before None s = absurd (none-some e (sym (ties.none cs c s) ∙ q))
       go c k q before (Some o) s =
           let m = ties.some cs c o s in
-          let pair : pair_of e ≡ (let p : Pair = record { by = c.number; other = o.number } in p) = ap pair_of (sym (inside m.0 (sym m.1 ∙ q))) ∙ m.2 in
+          let pair : pair_of e ≡ (let p : Pair = record { by = c.number; other = o.number } in p) = ap pair_of (sym (same_Some m.0 e (sym m.1 ∙ q))) ∙ m.2 in
           elim (subst (λ (p : Pair). (by.number < p.by) ⊎ ((by.number ≡ p.by) × (other.number < p.other))) pair l) [
             | inl less ↦ earlier (find (test by) cs) refl (before by i less)
             | inr t ↦ subst (λ (b : Named). test b other ≡ false) (sym (same_number cs by c a i k t.0)) (find-before (test c) cs o a s other j t.1)

@@ -1,5 +1,5 @@
 -- Rows of locks: what a seat holds after them, and what it noted.
-use Rattle.std.proofs.Common.{◌≡◌, ℕ, zero, suc, ◌+◌, ◌-◌, ◌<◌, ◌≤◌, List, [], ◌∷◌, ◌++◌, length, take, drop, get_or, refl, sym, ap, ◌∙◌, inl, inr, arith, length-drop, take-suc}
+use Rattle.std.proofs.Common.{◌≡◌, ℕ, zero, suc, ◌+◌, ◌-◌, ◌<◌, ◌≤◌, List, [], ◌∷◌, ◌++◌, length, take, drop, get_or, refl, sym, ap, ◌∙◌, inl, inr, arith, length-drop}
 use Rattle.std.proofs.Math.Seq.{split_at}
 use Rattle.std.specs.List.{Contains}
 use Rattle.std.proofs.lemmas.List.{take_all}
@@ -45,9 +45,6 @@ rises-at (x ∷ xs) zero zero a le l = omega arith
 rises-at (x ∷ xs) zero (suc j) a le l = let b : x < get_or xs j 0 = below_others x xs (get_or xs j 0) a (Contains-get_or xs j 0 (omega arith)) in omega arith
 rises-at (x ∷ xs) (suc i) zero a le l = absurd (omega arith)
 rises-at (x ∷ xs) (suc i) (suc j) a le l = rises-at xs i j a.1 (omega arith) (omega arith)
-
-pub take-next : (vars : List ℕ) (n : ℕ) → n < length vars → take (n + 1) vars ≡ take n vars ++ get_or vars n 0 ∷ []
-take-next vars n near = let e : n + 1 ≡ suc n = omega arith in ap (λ (k : ℕ). take k vars) e ∙ take-suc vars n 0 near
 
 pub split-around : (vars : List ℕ) (at x : ℕ) → at < length vars → get_or vars at 0 ≡ x → vars ≡ take at vars ++ x ∷ take (length vars - (at + 1)) (drop (at + 1) vars)
 split-around vars at x l e = let q : suc at ≡ at + 1 = omega arith in let n = length-drop (at + 1) vars in

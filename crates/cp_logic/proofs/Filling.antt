@@ -4,6 +4,7 @@ use Rattle.std.specs.Prelude.{◌⊎◌, ◌==◌, ◌≢◌, nat_lt}
 use Rattle.std.specs.Option.{option_map}
 use Rattle.std.specs.List.{Contains, All, cons_option, insert}
 use Rattle.std.proofs.lemmas.Bool.{eq-eqb, ltb-true, ltb-false, lt-ltb, le-ltb, false≢true}
+use Rattle.std.proofs.lemmas.Option.{none-some}
 use Rattle.std.proofs.lemmas.List.{length-map}
 use Rattle.std.proofs.lemmas.List.Elements.{All-weaker, All-cons, All-head, All-tail, All-contains}
 use Rattle.cp_logic.specs.declared.named.Named.{Named}
@@ -84,11 +85,8 @@ find-none_in : (cs : List Named) (n : ℕ) (c : Named) → find_number cs n ≡ 
 find-none_in [] n c e i q = none_in c i
 find-none_in (d ∷ ds) n c e i q = go (d.number == n) refl e (λ f j. find-none_in ds n c f j q)
   where
-    no : (a : Named) → Some a ≡ None → ⊥
-    no a h = cc
-
     go : (b : Bool) → (d.number == n) ≡ b → cond b (Some d) (find_number ds n) ≡ None → (find_number ds n ≡ None → Contains ds c → ⊥) → ⊥
-    go true p f more = no d f
+    go true p f more = none-some d (sym f)
     go false p f more = elim (in_cases c d ds i) [
       | inl s ↦ false≢true (sym p ∙ eq-eqb d.number n (ap (λ (k : Named). k.number) s ∙ q))
       | inr j ↦ more f j
@@ -182,10 +180,7 @@ module _ (n : ℕ) (c : List ℕ) where
 -- the empty slot of the number
 no_clause : (m : ℕ) (o : Option (List ℕ)) → option_map (λ (k : List ℕ). let s : Named = record { number = m; clause = k } in s) o ≡ None → o ≡ None
 no_clause m None e = refl
-no_clause m (Some k) e = absurd (no _ e)
-  where
-    no : (a : Named) → Some a ≡ None → ⊥
-    no a h = cc
+no_clause m (Some k) e = absurd (none-some _ (sym e))
 
 standing-set : (slots : List Slot) (i : ℕ) (d : Slot) (c : List ℕ) → IsAscending (slot_numbers slots) → i < length slots → (get_or slots i d).clause ≡ None
     → standing (set slots i (record { number = (get_or slots i d).number; clause = Some c })) ≡ with_clause (record { number = (get_or slots i d).number; clause = c }) (standing slots)

@@ -3,31 +3,21 @@ use Rattle.std.proofs.Common.{◌≡◌, ℕ, zero, suc, ◌+◌, ◌-◌, ◌/�
 use Rattle.std.specs.Prelude.{slice_get, nat_lt, nat_le, ◌↔◌, IsTrue}
 use Rattle.std.specs.List.{Contains, All}
 use Rattle.std.proofs.lemmas.Bool.{ltb-true, lt-ltb, leb-true, le-leb}
+use Rattle.std.proofs.lemmas.Option.{none-some, same_Some}
 use Rattle.std.proofs.lemmas.List.Elements.{All-contains}
 use Rattle.cp_logic.specs.Literals.{IsLiteral}
 use Rattle.cp_logic.specs.Clauses.{IsAscending}
 use Rattle.cp_logic.specs.Formulas.{IsWithin}
-use Rattle.cp_logic.proofs.Members.{in_cases, in_here, in_later, none_in, all_at, all_from}
+use Rattle.cp_logic.proofs.Members.{at_place, in_cases, none_in, all_at, all_from}
 use Rattle.cp_logic.proofs.Ascending.{below_others}
-
-inside : (a b : ℕ) → Some a ≡ Some b → a ≡ b
-inside a b h = cc
-
-never : (a : ℕ) → None ≡ Some a → ⊥
-never a h = cc
-
-get-in : (xs : List ℕ) (k l : ℕ) → slice_get xs k ≡ Some l → Contains xs l
-get-in [] k l e = absurd (never l e)
-get-in (x ∷ xs) zero l e = in_here l x xs (inside x l e)
-get-in (x ∷ xs) (suc k) l e = in_later l x xs (get-in xs k l e)
 
 -- the last is the greatest
 last-greatest : (xs : List ℕ) (k l : ℕ) → k + 1 ≡ length xs → slice_get xs k ≡ Some l → IsAscending xs → (z : ℕ) → Contains xs z → z ≤ l
 last-greatest [] k l n e a z i = absurd (none_in z i)
-last-greatest (x ∷ []) zero l n e a z i = elim (in_cases z x [] i) [ inl d ↦ let q : x ≡ l = inside x l e in omega arith | inr j ↦ absurd (none_in z j) ]
+last-greatest (x ∷ []) zero l n e a z i = elim (in_cases z x [] i) [ inl d ↦ let q : x ≡ l = same_Some x l e in omega arith | inr j ↦ absurd (none_in z j) ]
 last-greatest (x ∷ y ∷ ys) zero l n e a z i = absurd (omega arith)
 last-greatest (x ∷ xs) (suc k) l n e a z i = elim (in_cases z x xs i) as (λ _. z ≤ l) [
-  | inl d ↦ let b : x < l = below_others x xs l a (get-in xs k l e) in omega arith
+  | inl d ↦ let b : x < l = below_others x xs l a (at_place xs k l e) in omega arith
   | inr j ↦ last-greatest xs k l (omega arith) e a.1 z j
 ]
 
@@ -41,20 +31,20 @@ empty-within vars (x ∷ xs) e = absurd (no (suc (length xs) - 1) (omega arith) 
     got (y ∷ ys) (suc k) h = got ys k (omega arith)
 
     no : (k : ℕ) → k < length (x ∷ xs) → None ≡ slice_get (x ∷ xs) k → ⊥
-    no k h q = let g = got (x ∷ xs) k h in never g.0 (q ∙ g.1)
+    no k h q = let g = got (x ∷ xs) k h in none-some g.0 (q ∙ g.1)
 
 pub within-none : (vars : ℕ) (xs : List ℕ) → None ≡ slice_get xs (length xs - 1) → IsTrue true ↔ IsWithin vars xs
 within-none vars xs e = (λ t. subst (IsWithin vars) (sym (empty-within vars xs e)) (refl, refl), λ w. refl)
 
 pub within-last : (vars : ℕ) (xs : List ℕ) (l v : ℕ) → Some l ≡ slice_get xs (length xs - 1) → IsAscending xs → All IsLiteral xs → v ≡ l / 2 → IsTrue (nat_le v vars) ↔ IsWithin vars xs
-within-last vars xs l v e a h q = (into, λ w. le-leb v vars (let b : l / 2 < vars + 1 = ltb-true (l / 2) (vars + 1) (all_at (λ k. nat_lt (k / 2) (vars + 1)) xs l w.1 (get-in xs (length xs - 1) l (sym e))) in omega arith))
+within-last vars xs l v e a h q = (into, λ w. le-leb v vars (let b : l / 2 < vars + 1 = ltb-true (l / 2) (vars + 1) (all_at (λ k. nat_lt (k / 2) (vars + 1)) xs l w.1 (at_place xs (length xs - 1) l (sym e))) in omega arith))
   where
     some : (ys : List ℕ) → Contains ys l → 0 < length ys
     some [] i = absurd (none_in l i)
     some (y ∷ ys) i = omega arith
 
     greatest : (z : ℕ) → Contains xs z → z ≤ l
-    greatest = let n : 0 < length xs = some xs (get-in xs (length xs - 1) l (sym e)) in last-greatest xs (length xs - 1) l (omega arith) (sym e) a
+    greatest = let n : 0 < length xs = some xs (at_place xs (length xs - 1) l (sym e)) in last-greatest xs (length xs - 1) l (omega arith) (sym e) a
 
     into : IsTrue (nat_le v vars) → IsWithin vars xs
     into t =

@@ -1,13 +1,14 @@
 -- A clause that is compared with a resolvent while that is merged.
 use Rattle.std.proofs.Common.{◌≡◌, ℕ, ◌+◌, ◌<◌, ◌≤◌, false, List, [], ◌∷◌, ◌++◌, length, take, drop, get_or, sym, ◌∙◌, ap, subst, inl, inr, arith}
 use Rattle.std.specs.Prelude.{◌⊎◌, ◌==◌}
+use Rattle.std.proofs.lemmas.List.{append_assoc, take_all, length-take-le}
+use Rattle.std.proofs.Math.Seq.{get_or-append_seam}
 use Rattle.std.proofs.lemmas.Bool.{cases_eq, cases_order, eq-eqb, ne_eqb, false_from_ne_true}
 use Rattle.cp_logic.specs.Literals.{negated}
 use Rattle.cp_logic.specs.Clauses.{resolvent, IsAscending}
 use Rattle.cp_logic.specs.Legality.{same_literals}
 use Rattle.cp_logic.proofs.Parts.{literals_decides}
 use Rattle.cp_logic.proofs.Merges.{Merging, merge-all, merge-left, merge-right, merge-both, within-read, read_same, take-read}
-use Rattle.cp_logic.proofs.ReadFacts.{take-whole, length-taken, read-behind}
 
 -- the first literals of the clause are those of the merge so far
 pub record Matching (clause : List ℕ) (pivot : ℕ) (left right : List ℕ) (i j k : ℕ) : Type 0 where
@@ -28,8 +29,8 @@ module _ (clause : List ℕ) (p : ℕ) (left right : List ℕ) (i j k d v : ℕ)
   pub match-off : (get_or clause k d ≡ v → ⊥) → false ≡ same_literals clause (resolvent p left right)
   match-off n = sym (false_from_ne_true (same_literals clause (resolvent p left right)) (λ t. n
       (ap (λ zs. get_or zs k d) ((literals_decides clause (resolvent p left right)).0 t ∙ sym g.so_far)
-      ∙ ap (λ m. get_or ((take k clause ++ v ∷ []) ++ resolvent p (drop i left) (drop j right)) m d) (sym (length-taken clause k within))
-      ∙ read-behind (take k clause) v (resolvent p (drop i left) (drop j right)) d)))
+      ∙ ap (λ m. get_or ((take k clause ++ v ∷ []) ++ resolvent p (drop i left) (drop j right)) m d) (sym (length-take-le k clause within))
+      ∙ (ap (λ l. get_or l (length (take k clause)) d) (append_assoc (take k clause) (v ∷ []) (resolvent p (drop i left) (drop j right))) ∙ get_or-append_seam (take k clause) v (resolvent p (drop i left) (drop j right)) d))))
 
 -- the heads of what is left, of which neither is the pivot's, and the lesser of them
 module _ (clause : List ℕ) (p : ℕ) (left right : List ℕ) (i j k d first second least : ℕ) (a : IsAscending left) (b : IsAscending right) (g : Matching clause p left right i j k)
@@ -72,8 +73,8 @@ pub match-all : (clause : List ℕ) (p : ℕ) (left right : List ℕ) (i j k : �
 match-all clause p left right i j k g h l =
     let done : take k clause ≡ resolvent p left right = merge-all p left right i j (take k clause) g.merging h l in
     elim (cases_eq k (length clause)) [
-      | inl e ↦ eq-eqb k (length clause) e ∙ sym ((literals_decides clause (resolvent p left right)).1 (sym (take-whole clause k e) ∙ done))
+      | inl e ↦ eq-eqb k (length clause) e ∙ sym ((literals_decides clause (resolvent p left right)).1 (sym (take_all k clause (omega arith)) ∙ done))
       | inr n ↦ ne_eqb k (length clause) n
           ∙ sym (false_from_ne_true (same_literals clause (resolvent p left right))
-          (λ t. n (sym (length-taken clause k g.within) ∙ ap (λ (zs : List ℕ). length zs) (done ∙ sym ((literals_decides clause (resolvent p left right)).0 t)))))
+          (λ t. n (sym (length-take-le k clause g.within) ∙ ap (λ (zs : List ℕ). length zs) (done ∙ sym ((literals_decides clause (resolvent p left right)).0 t)))))
     ]

@@ -6,6 +6,7 @@ use Rattle.std.proofs.Math.Seq.{take-suc, map-set_same}
 use Rattle.std.proofs.lemmas.Bool.{eq-eqb, ne_eqb, eqb-true, false≢true, cases_eq}
 use Rattle.std.proofs.lemmas.List.{append-nil, map-append, length-append, take_all, get_or-map, get_or_default, length-set, get_or-set_same, get_or-set_other}
 use Rattle.std.proofs.lemmas.List.Elements.{All-append, All-contains, All-filter, Contains-append_right, Contains-append_cases, Contains-get_or, filter-append}
+use Rattle.std.proofs.lemmas.Bool.{false_from_ne_true}
 use Rattle.cp_logic.specs.declared.named.Named.{Named}
 use Rattle.cp_logic.specs.Literals.{variable_of, IsLiteral}
 use Rattle.cp_logic.specs.Clauses.{contains, has_variable, IsAscending}
@@ -18,13 +19,13 @@ use Rattle.cp_logic.proofs.Changes.{without_one, without_none, without_both}
 use Rattle.cp_occ.specs.Cells.{CellView, variables_after, variables_of, lists_of}
 use Rattle.cp_occ.specs.Changes.{AreOver, Each, IsRoomier, IsWithout, IsWith, IsChanged, lists_after}
 use Rattle.cp_occ.proofs.Numbered.{same_place, without-absent}
-use Rattle.cp_occ.proofs.Entered.{contains-after, rising-after, without-it, with-it, false-from, lent-back}
+use Rattle.cp_occ.proofs.Entered.{contains-after, rising-after, without-it, with-it, lent-back}
 
 -- ---- the variables of a clause
 
 -- no literal is of the variable 0
 none-zero : (clause : List ℕ) → All IsLiteral clause → has_variable 0 clause ≡ false
-none-zero clause literals = false-from (has_variable 0 clause) (λ q.
+none-zero clause literals = false_from_ne_true (has_variable 0 clause) (λ q.
     let m = any_member (λ l. variable_of l == 0) clause q in
     let zero-is : variable_of m.0 ≡ 0 = eqb-true (variable_of m.0) 0 m.2 in
     let low : 2 ≤ m.0 = (All-contains IsLiteral clause m.0 literals m.1).0 in
@@ -36,7 +37,7 @@ variables-has clause x ascending literals = elim (cases_eq x 0) [
   | inl e ↦
       let rest = rising-after 0 clause ascending (λ l i. omega arith) in
       rw e
-      (false-from (contains (variables_after 0 clause) 0) (λ q. let l : 0 < 0 = rest.1 0 (contains-in (variables_after 0 clause) 0 q) in omega arith)
+      (false_from_ne_true (contains (variables_after 0 clause) 0) (λ q. let l : 0 < 0 = rest.1 0 (contains-in (variables_after 0 clause) 0 q) in omega arith)
       ∙ sym (none-zero clause literals))
   | inr ne ↦ contains-after 0 clause x ne
 ]
@@ -106,7 +107,7 @@ module _ (P : CellView → CellView → Type 0) (clause : List ℕ) (old cells :
         ∙ get_or-map (λ (c : CellView). c.variable) cells i d 0 bound ∙ at d
 
     next-gone : contains left v ≡ false
-    next-gone = false-from (contains left v) (λ q. let l : v < v = below_others v left v s.rising (contains-in left v q) in omega arith)
+    next-gone = false_from_ne_true (contains left v) (λ q. let l : v < v = below_others v left v s.rising (contains-in left v q) in omega arith)
 
     -- it is as it was
     pub next-same : (d : CellView) → get_or cells i d ≡ get_or old i d

@@ -1,8 +1,8 @@
 -- The cells of a formula: they are empty at first, and each clause is entered in the cells of its variables.
-use Rattle.std.proofs.Common.{◌≡◌, ℕ, zero, suc, ◌+◌, ◌<◌, ◌≤◌, Bool, true, false, cond, eqb, List, [], ◌∷◌, ◌++◌, length, take, drop, map, set, get_or, append_assoc, add-zero, refl, sym, ◌∙◌, ap, subst, inl, inr, arith}
+use Rattle.std.proofs.Common.{◌≡◌, ℕ, zero, suc, ◌+◌, ◌<◌, ◌≤◌, true, false, cond, eqb, List, [], ◌∷◌, ◌++◌, length, take, drop, map, set, get_or, append_assoc, add-zero, refl, sym, ◌∙◌, ap, subst, inl, inr, arith}
 use Rattle.std.specs.Prelude.{◌==◌, ◌≢◌, ◌-◌, ◌||◌, nat_lt}
 use Rattle.std.specs.List.{All, Contains, range_with_len}
-use Rattle.std.proofs.lemmas.Bool.{eq-eqb, ne_eqb, eqb-true, ltb-true, false≢true, cases_eq}
+use Rattle.std.proofs.lemmas.Bool.{eq-eqb, ne_eqb, eqb-true, ltb-true, false≢true, false_from_ne_true, cases_eq}
 use Rattle.std.proofs.lemmas.List.{append-nil, take_all, drop_all, get_or_default, map-id, length-set, get_or-set_same, get_or-set_other}
 use Rattle.std.proofs.lemmas.List.Elements.{Contains-get_or, Contains-append_right, filter-append}
 use Rattle.cp_logic.specs.declared.named.Named.{Named}
@@ -96,10 +96,6 @@ Entering-start n old numbered ascending within =
       entered = λ k d h e. sym (ap (λ (ns : List Named). (get_or old k d).clauses ++ ns) (without-it n (k + 1) (sym (contains-after 0 n.clause (k + 1) (omega arith)) ∙ e)) ∙ append-nil (get_or old k d).clauses);
     }
 
-pub false-from : (b : Bool) → (b ≡ true → ⊥) → b ≡ false
-false-from true h = absurd (h refl)
-false-from false h = refl
-
 -- the next variable's cell gets the clause
 module _ (n : Named) (old cells : List CellView) (v : ℕ) (left : List ℕ) (s : Entering n old cells (v ∷ left)) where
   pub v-low : 0 < v
@@ -118,7 +114,7 @@ module _ (n : Named) (old cells : List CellView) (v : ℕ) (left : List ℕ) (s 
   v-first = ap (λ b. b || contains left (v - 1 + 1)) (eq-eqb v (v - 1 + 1) (sym at-v))
 
   v-gone : contains left (v - 1 + 1) ≡ false
-  v-gone = false-from (contains left (v - 1 + 1)) (λ q. let l : v < v - 1 + 1 = below_others v left (v - 1 + 1) s.rising (contains-in left (v - 1 + 1) q) in let e = at-v in omega arith)
+  v-gone = false_from_ne_true (contains left (v - 1 + 1)) (λ q. let l : v < v - 1 + 1 = below_others v left (v - 1 + 1) s.rising (contains-in left (v - 1 + 1) q) in let e = at-v in omega arith)
 
   -- its cell is as it was
   pub v-clauses : (d : CellView) → (get_or cells (v - 1) d).clauses ≡ (get_or old (v - 1) d).clauses

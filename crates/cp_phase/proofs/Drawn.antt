@@ -13,6 +13,7 @@ use Rattle.std.proofs.lemmas.Option.{slice_get-map}
 use Rattle.std.proofs.lemmas.List.Elements.{All-cons}
 use Rattle.std.proofs.lemmas.List.Sums.{sum_by-cons, sum_by-append}
 use mathlib.Core.Logic.{dite}
+use Rattle.std.proofs.lemmas.Option.{none-some, same_Some}
 use native.Mathlib.Decide.{ℕ_discrete}
 use Rattle.cp_yard.specs.Sitting.{Sitting, YardView}
 use Rattle.cp_claim.specs.Views.{View, Counter, Share, share, all_shares, times, times_named, ends, once_below, IsAlone, DrawsOnly}
@@ -22,7 +23,7 @@ use Rattle.cp_worker.specs.Shifts.{candidates_of}
 use Rattle.cp_phase.specs.declared.team.Member.{Member}
 use Rattle.cp_phase.specs.Rounds.{times_taken, NoneStopped}
 use Rattle.cp_phase.specs.Teams.{IsSeatOf, AreSeats, founder_of, claim_of, members_from, claims_joined, IsReady, IsWork, IsTaken, HasWorked, IsRound}
-use Rattle.cp_phase.proofs.Lists.{some_same, none_some, written_over, zip_from}
+use Rattle.cp_phase.proofs.Lists.{written_over, zip_from}
 use Rattle.cp_phase.proofs.Joins.{IsOut, drawn_of_all, claim_shares, claims_joined-is}
 
 -- the member as the round began
@@ -47,8 +48,8 @@ length-members c k (s ∷ ss) = ap suc (length-members c (k + 1) ss)
 -- ---- a shift
 
 for_some : {E : Type 0} (r : Result WorkerShift E) (o : Option WorkerShift) (P Q : WorkerShift → Type 0) → o ≡ result_ok r → IfOk r P → ((s : WorkerShift) → P s → Q s) → ForSome o Q
-for_some (Ok s) o P Q e h to = λ v at. subst Q (some_same s v (sym e ∙ at)) (to s h)
-for_some (Err x) o P Q e h to = λ v at. absurd (none_some v (sym e ∙ at))
+for_some (Ok s) o P Q e h to = λ v at. subst Q (same_Some s v (sym e ∙ at)) (to s h)
+for_some (Err x) o P Q e h to = λ v at. absurd (none-some v (sym e ∙ at))
 
 -- what the shift of a member says of its seat and its claim seat
 pub worked : {E : Type 0} (limit in_round : ℕ) (v w : SeatView) (c d : View) (r : Result WorkerShift E) (o : Option WorkerShift) → o ≡ result_ok r
@@ -59,8 +60,8 @@ worked limit in_round v w c d r o e h = for_some r o _ (IsWork limit in_round v 
 pub taken : {E : Type 0} (limit in_round : ℕ) (v w : SeatView) (c d : View) (r : Result WorkerShift E) (o : Option WorkerShift) → o ≡ result_ok r
     → IfOk r (λ s. (noted : List Note) × (posted : List (ℕ × Post)) × (drawn : List ℕ) × GoesOn v w noted posted × (d.drawn ≡ c.drawn ++ drawn) × IsShift v.base v.number in_round limit noted posted drawn s)
     → IfOk r (λ s. s.stopped ≡ None → (word : ℕ) × (d.mine.end ≡ Some word)) → ForSome o (IsTaken c d)
-taken limit in_round v w c d (Ok s) o e k l = λ t at. subst (IsTaken c d) (some_same s t (sym e ∙ at)) (record { drawn = k.2; claims = k.4; taken = k.5.taken; ended = l })
-taken limit in_round v w c d (Err x) o e k l = λ t at. absurd (none_some t (sym e ∙ at))
+taken limit in_round v w c d (Ok s) o e k l = λ t at. subst (IsTaken c d) (same_Some s t (sym e ∙ at)) (record { drawn = k.2; claims = k.4; taken = k.5.taken; ended = l })
+taken limit in_round v w c d (Err x) o e k l = λ t at. absurd (none-some t (sym e ∙ at))
 
 number_of : (v w : View) → DrawsOnly v w → w.mine.number ≡ v.mine.number
 number_of v w e = ap (λ (z : View). z.mine.number) e
@@ -96,7 +97,7 @@ module _ (c : Counter) (limit r : ℕ) where
   taken_are k (v ∷ vs) [] ss h e = absurd h
   taken_are k (v ∷ vs) (m ∷ ms) [] h e = absurd (let n = ap length e in omega arith)
   taken_are k (v ∷ vs) (m ∷ ms) (s ∷ ss) h e =
-      let t = h.0.taken s (some_same m.shift (Some s) (ap (λ (l : List (Option WorkerShift)). slice_get l 0) e)) in
+      let t = h.0.taken s (same_Some m.shift (Some s) (ap (λ (l : List (Option WorkerShift)). slice_get l 0) e)) in
       let one : s.taken.items ≡ candidates_of m.claim.view.drawn = t.taken ∙ ap candidates_of (sym t.claims) in
       let rest = taken_are (k + 1) vs ms ss h.1 (ap tail_of e) in
       (λ i. one i ++ rest i) ∙ sym (map-append m.claim.view.drawn (drawn_of_all ms))
@@ -116,7 +117,7 @@ module _ (c : Counter) (limit r : ℕ) where
   some_ended k (v ∷ vs) [] ss low h e none = absurd h
   some_ended k (v ∷ vs) (m ∷ ms) [] low h e none = absurd (let n = ap length e in omega arith)
   some_ended k (v ∷ vs) (m ∷ ms) (s ∷ ss) low h e none =
-      let t = h.0.taken s (some_same m.shift (Some s) (ap (λ (l : List (Option WorkerShift)). slice_get l 0) e)) in
+      let t = h.0.taken s (same_Some m.shift (Some s) (ap (λ (l : List (Option WorkerShift)). slice_get l 0) e)) in
       let end = t.ended (none 0 s (omega arith)) in
       let F : Share → ℕ = λ z. if is_some z.end then 1 else 0 in
       let one : F m.claim.view.mine ≡ 1 = ap (λ (o : Option ℕ). if is_some o then 1 else 0) end.1 in
@@ -126,10 +127,10 @@ module _ (c : Counter) (limit r : ℕ) where
   -- which seat and which member stand at a place
   pub found_at : (k : ℕ) (seats : List Sitting) (ms : List Member) (i : ℕ) (w : Sitting) → AllZip (HasWorked limit r) (members_from c k seats) ms → slice_get (seats_of ms) i ≡ Some w
       → (v : Sitting) × (m : Member) × (n : ℕ) × (slice_get seats i ≡ Some v) × (slice_get ms i ≡ Some m) × HasWorked limit r (member_of c n v) m × (m.seat ≡ w)
-  found_at k [] [] i w h at = absurd (none_some w at)
+  found_at k [] [] i w h at = absurd (none-some w at)
   found_at k [] (m ∷ ms) i w h at = absurd h
   found_at k (v ∷ vs) [] i w h at = absurd h
-  found_at k (v ∷ vs) (m ∷ ms) zero w h at = (v, m, k, refl, refl, h.0, some_same m.seat w at)
+  found_at k (v ∷ vs) (m ∷ ms) zero w h at = (v, m, k, refl, refl, h.0, same_Some m.seat w at)
   found_at k (v ∷ vs) (m ∷ ms) (suc i) w h at = found_at (k + 1) vs ms i w h.1 at
 
   pub seats_after : (y : YardView) (seats : List Sitting) (ms : List Member) → AreSeats y seats → AllZip (HasWorked limit r) (members_from c 1 seats) ms → AreSeats y (seats_of ms)
@@ -146,10 +147,10 @@ module _ (c : Counter) (limit r : ℕ) where
       → (i : ℕ) (v w : Sitting) (s : WorkerShift) → slice_get seats i ≡ Some v → slice_get (seats_of ms) i ≡ Some w → slice_get ss i ≡ Some s → IsWork limit r v.view w.view s
   work_at seats ms ss h e i v w s at_v at_w at_s =
       let f = found_at 1 seats ms i w h at_w in
-      let same : f.0 ≡ v = some_same f.0 v (sym f.3 ∙ at_v) in
+      let same : f.0 ≡ v = same_Some f.0 v (sym f.3 ∙ at_v) in
       let left : slice_get (shifts_of ms) i ≡ Some f.1.shift = slice_get-map (λ (m : Member). m.shift) ms i ∙ ap (option_map (λ (m : Member). m.shift)) f.4 in
       let right : slice_get (map Some ss) i ≡ Some (Some s) = slice_get-map Some ss i ∙ ap (option_map Some) at_s in
-      let is : f.1.shift ≡ Some s = some_same f.1.shift (Some s) (sym left ∙ (ap (λ (l : List (Option WorkerShift)). slice_get l i) e ∙ right)) in
+      let is : f.1.shift ≡ Some s = same_Some f.1.shift (Some s) (sym left ∙ (ap (λ (l : List (Option WorkerShift)). slice_get l i) e ∙ right)) in
       subst (λ (z : Sitting × Sitting). IsWork limit r z.0.view z.1.view s) (λ j. (same j, f.6 j)) (f.5.work s is)
 
   -- the members after their work, which was written over those from before

@@ -1,7 +1,8 @@
 -- Seats and claim seats that take in others.
 use Rattle.std.proofs.Common.{◌≡◌, ◌≢◌, ℕ, zero, suc, ◌+◌, ◌<◌, Bool, true, false, ◌||◌, MatchBool, Option, is_some, List, [], ◌∷◌, ◌++◌, length, map, flat_map, slice_get, Some, None, All, Contains, refl, sym, ap, subst, ◌∙◌, ⊎_elim, arith, append-nil, append_assoc, length-append}
 use Rattle.std.proofs.lemmas.List.Elements.{All-cons, All-push, Contains-append_right}
-use Rattle.cp_logic.proofs.Members.{in_here, in_later, in_flat_map}
+use Rattle.std.proofs.lemmas.Option.{slice_get_within}
+use Rattle.cp_logic.proofs.Members.{at_place, in_here, in_later, in_flat_map}
 use Rattle.cp_yard.specs.Views.{Base, SeatView, Share, all_shares, joined, child, times}
 use Rattle.cp_yard.specs.Rule.{IsAlone, Account}
 use Rattle.cp_yard.specs.Sitting.{Sitting, YardView}
@@ -15,7 +16,7 @@ use Rattle.cp_worker.specs.declared.lists.WorkerShift.{WorkerShift}
 use Rattle.cp_phase.specs.declared.team.Member.{Member}
 use Rattle.cp_phase.specs.Rounds.{NoneStopped, OneStopped, IsFirstSeat}
 use Rattle.cp_phase.specs.Teams.{IsSeatOf, AreSeats, IsNew, AreNew, joined_all, founder_of, claim_of, members_from, claims_joined}
-use Rattle.cp_phase.proofs.Lists.{at_end, at_front, at_back, within, in_at, some_at}
+use Rattle.cp_phase.proofs.Lists.{at_end, at_front, at_back, some_at}
 
 -- ---- seats
 
@@ -50,7 +51,7 @@ joined_all-is v [] = sym (λ i. record v { others = append-nil v.others i })
 joined_all-is v (s ∷ ss) = joined_all-is (joined v s.view) ss ∙ (λ i. record v { others = append_assoc v.others (all_shares s.view) (shares_of_all ss) i })
 
 pub own_of_all : (seats : List Sitting) (i : ℕ) (s : Sitting) → slice_get seats i ≡ Some s → Contains (shares_of_all seats) s.view.own
-own_of_all seats i s at = in_flat_map (λ (t : Sitting). all_shares t.view) seats s s.view.own (in_at seats i s at) (in_here s.view.own s.view.own s.view.others refl)
+own_of_all seats i s at = in_flat_map (λ (t : Sitting). all_shares t.view) seats s s.view.own (at_place seats i s at) (in_here s.view.own s.view.own s.view.others refl)
 
 -- ---- claim seats
 
@@ -120,7 +121,7 @@ shift_more ss s m rest items all is left h =
     ∙ (ap (λ (o : Option WorkerShift). map Some ss ++ o ∷ map (λ z. z.shift) rest) (sym is) ∙ (ap (λ l. map Some ss ++ map (λ z. z.shift) l) (sym left) ∙ h))
 
 pub stopped_more : (b : Bool) (ss : List WorkerShift) (s : WorkerShift) → MatchBool b (OneStopped ss) (NoneStopped ss) → MatchBool (b || is_some s.stopped) (OneStopped (ss ++ s ∷ [])) (NoneStopped (ss ++ s ∷ []))
-stopped_more true ss s h = let at : slice_get (ss ++ s ∷ []) h.0 ≡ Some h.1 = at_front ss (s ∷ []) h.0 (within ss h.0 h.1 h.3) ∙ h.3 in (h.0, h.1, h.2, at, h.4)
+stopped_more true ss s h = let at : slice_get (ss ++ s ∷ []) h.0 ≡ Some h.1 = at_front ss (s ∷ []) h.0 (slice_get_within ss h.0 h.1 h.3) ∙ h.3 in (h.0, h.1, h.2, at, h.4)
 stopped_more false ss s h = go s.stopped refl
   where
     go : (o : Option Stop) → s.stopped ≡ o → MatchBool (is_some s.stopped) (OneStopped (ss ++ s ∷ [])) (NoneStopped (ss ++ s ∷ []))

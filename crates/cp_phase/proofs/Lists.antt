@@ -1,26 +1,21 @@
 -- Lists read by place, cut in rows, filtered twice, and numbered.
-use Rattle.std.proofs.Common.{◌≡◌, ℕ, zero, suc, ◌+◌, ◌<◌, ◌≤◌, Bool, true, false, cond, ◌&&◌, ◌⊎◌, List, [], ◌∷◌, ◌++◌, length, take, drop, get_or, slice_get, Some, None, All, AllPairs, Contains, filter, refl, sym, ap, subst, ◌∙◌, inl, inr, ⊎_elim, arith, take_all, append-nil, length-drop}
+use Rattle.std.proofs.Common.{◌≡◌, ℕ, zero, suc, ◌+◌, ◌<◌, ◌≤◌, Bool, true, false, cond, ◌⊎◌, List, [], ◌∷◌, ◌++◌, length, take, drop, get_or, slice_get, Some, All, AllPairs, Contains, filter, refl, sym, ap, subst, ◌∙◌, inl, inr, ⊎_elim, arith, take_all, append-nil, length-drop}
 use Rattle.std.specs.List.{AllZip, enumerate_from}
 use Rattle.std.proofs.lemmas.List.{take-append-le, drop-append-le, drop_all}
 use Rattle.std.proofs.lemmas.List.Elements.{All-append, All-contains}
 use Rattle.std.proofs.lemmas.List.Kept.{AllPairs-cons}
 use Rattle.std.proofs.lemmas.List.FromFn.{length-enumerate_from, get_or-enumerate_from}
 use Rattle.std.proofs.Math.Seq.{drop-append_seam}
+use Rattle.std.proofs.lemmas.Option.{none-some, same_Some}
 use Rattle.cp_logic.proofs.Members.{none_in, in_here, in_later, in_cases}
 
 module _ {A : Type 0} where
-  pub some_same : (a b : A) → Some a ≡ Some b → a ≡ b
-  some_same a b e = grind arith
-
-  pub none_some : (a : A) → None ≡ Some a → ⊥
-  none_some a e = cc
-
   -- ---- places
 
   -- what stands in a list with one more at its end
   pub at_end : (l : List A) (a b : A) (i : ℕ) → slice_get (l ++ a ∷ []) i ≡ Some b → (slice_get l i ≡ Some b) ⊎ ((i ≡ length l) × (a ≡ b))
-  at_end [] a b zero e = inr (refl, some_same a b e)
-  at_end [] a b (suc i) e = absurd (none_some b e)
+  at_end [] a b zero e = inr (refl, same_Some a b e)
+  at_end [] a b (suc i) e = absurd (none-some b e)
   at_end (x ∷ xs) a b zero e = inl e
   at_end (x ∷ xs) a b (suc i) e = ⊎_elim (λ t. inl t) (λ t. inr (ap suc t.0, t.1)) (at_end xs a b i e)
 
@@ -34,20 +29,10 @@ module _ {A : Type 0} where
   at_back (x ∷ xs) m i zero e = absurd (omega arith)
   at_back (x ∷ xs) m i (suc k) e = at_back xs m i k (omega arith)
 
-  pub within : (l : List A) (i : ℕ) (a : A) → slice_get l i ≡ Some a → i < length l
-  within [] i a e = absurd (none_some a e)
-  within (x ∷ xs) zero a e = omega arith
-  within (x ∷ xs) (suc i) a e = let low = within xs i a e in omega arith
-
   pub some_at : (l : List A) (i : ℕ) → i < length l → (a : A) × (slice_get l i ≡ Some a)
   some_at [] i low = absurd (omega arith)
   some_at (x ∷ xs) zero low = (x, refl)
   some_at (x ∷ xs) (suc i) low = some_at xs i (omega arith)
-
-  pub in_at : (l : List A) (i : ℕ) (a : A) → slice_get l i ≡ Some a → Contains l a
-  in_at [] i a e = absurd (none_some a e)
-  in_at (x ∷ xs) zero a e = in_here a x xs (some_same x a e)
-  in_at (x ∷ xs) (suc i) a e = in_later a x xs (in_at xs i a e)
 
   -- ---- rows
 
@@ -65,14 +50,6 @@ module _ {A : Type 0} where
   written_over k new old same long = ap (λ l. take k (new ++ l)) (drop_all (length new) old (omega arith)) ∙ (ap (take k) (append-nil new) ∙ take_all k new (omega arith))
 
   -- ---- filters
-
-  filter_cond : (p : A → Bool) (b : Bool) (x : A) (ys zs : List A) → filter p ys ≡ zs → filter p (cond b (x ∷ ys) ys) ≡ cond (b && p x) (x ∷ zs) zs
-  filter_cond p true x ys zs e = ap (λ ws. cond (p x) (x ∷ ws) ws) e
-  filter_cond p false x ys zs e = e
-
-  pub filter-filter : (p q : A → Bool) (xs : List A) → filter p (filter q xs) ≡ filter (λ x. q x && p x) xs
-  filter-filter p q [] = refl
-  filter-filter p q (x ∷ xs) = filter_cond p (q x) x (filter q xs) (filter (λ x. q x && p x) xs) (filter-filter p q xs)
 
   pub filter-none : (p : A → Bool) (xs : List A) → All (λ x. p x ≡ false) xs → filter p xs ≡ []
   filter-none p [] none = refl

@@ -5,6 +5,8 @@ use Rattle.std.specs.List.{enumerate_from}
 use Rattle.std.proofs.lemmas.Bool.{cases_lt, cases_eq}
 use Rattle.std.proofs.lemmas.List.Elements.{All-append, All-weaker, All-contains, filter-append}
 use Rattle.std.proofs.lemmas.List.Kept.{AllPairs-filter}
+use Rattle.std.proofs.lemmas.Option.{none-some, same_Some, slice_get_within}
+use Rattle.cp_logic.proofs.Eliminations.{filter-filter}
 use Rattle.cp_logic.specs.Journals.{Post, posts_of}
 use Rattle.cp_logic.proofs.Members.{of_map, of_filter, in_filter}
 use Rattle.cp_yard.specs.Views.{Base, Note, Share}
@@ -14,7 +16,7 @@ use Rattle.cp_worker.specs.Visits.{positions, IsPostOf}
 use Rattle.cp_worker.specs.Shifts.{IsShift}
 use Rattle.cp_phase.specs.Rounds.{of_round, shift_at, times_taken, NoneStopped, OneStopped, all_notes, IsShiftIn, EndsAt, AreShifts}
 use Rattle.cp_phase.specs.Teams.{AreSeats, AreNew, IsRound, in_round, AreDone, ArePlayed}
-use Rattle.cp_phase.proofs.Lists.{some_same, none_some, at_front, at_back, within, some_at, row_front, row_back, row_past, filter-filter, filter-none, filter-all, AllPairs-append, before, ascending, in_enumerated}
+use Rattle.cp_phase.proofs.Lists.{at_front, at_back, some_at, row_front, row_back, row_past, filter-none, filter-all, AllPairs-append, before, ascending, in_enumerated}
 
 -- the notes of one more round
 all_more : (noted : List (List Note)) (ns : List Note) → all_notes (noted ++ ns ∷ []) ≡ all_notes noted ++ ns
@@ -26,7 +28,7 @@ in_earlier : (f : Base) (limit number r : ℕ) (noted : List (List Note)) (ns : 
     → IsShiftIn f limit number r noted posts s → IsShiftIn f limit number r (noted ++ ns ∷ []) same s
 in_earlier f limit number r noted ns posts same s p a = record {
   notes = a.notes;
-  there = at_front noted (ns ∷ []) r (within noted r a.notes a.there) ∙ a.there;
+  there = at_front noted (ns ∷ []) r (slice_get_within noted r a.notes a.there) ∙ a.there;
   drawn = a.drawn;
   shift = subst (λ (ps : List (ℕ × Post)). IsShift f number (r + 1) limit a.notes ps a.drawn s) (sym p) a.shift;
 }
@@ -55,7 +57,7 @@ module _ (n b : ℕ) (shifts ss : List WorkerShift) (long : length shifts ≡ b 
       (λ (less : r < b). inl (less, sym (at_front shifts ss (r * n + i) (let a = row_ends n r b less in omega arith)) ∙ at))
       (λ (ge : b ≤ r). ⊎_elim
       (λ (e : r ≡ b). let m : r * n ≡ b * n = ap (λ (k : ℕ). k * n) e in inr (e, sym (at_back shifts ss i (r * n + i) (omega arith)) ∙ at))
-      (λ (ne : r ≢ b). let less : b < r = omega arith in absurd (let a = row_ends n b r less in let l = all_long in let w = within (shifts ++ ss) (r * n + i) s at in omega arith))
+      (λ (ne : r ≢ b). let less : b < r = omega arith in absurd (let a = row_ends n b r less in let l = all_long in let w = slice_get_within (shifts ++ ss) (r * n + i) s at in omega arith))
       (cases_eq r b))
       (cases_lt r b)
 
@@ -86,7 +88,7 @@ module _ (n b : ℕ) (shifts ss : List WorkerShift) (long : length shifts ≡ b 
       each = shift.posts
 
       is : (t : WorkerShift) → slice_get ss i ≡ Some t → t ≡ s
-      is t at_t = some_same t s (sym at_t ∙ at)
+      is t at_t = same_Some t s (sym at_t ∙ at)
 
       cut : (r : ℕ) → in_round (r + 1) new ≡ in_round (r + 1) old ++ in_round (r + 1) posted
       cut r = ap (in_round (r + 1)) e ∙ filter-append (λ (q : ℕ × Post). q.1.round == r + 1) old posted
@@ -131,7 +133,7 @@ played_start y limit n seats team are new = record {
     noted = [];
     rounds = refl;
     all = e.notes;
-    each = λ r s at_s. absurd (none_some s at_s);
+    each = λ r s at_s. absurd (none-some s at_s);
   };
   taken_once = λ r x. subst (λ (l : List WorkerShift). times_taken x l ≤ 1) (sym (row_past (r * n) n [] (omega arith))) (omega arith);
   taken_all = λ r x low. absurd (omega arith);
@@ -147,7 +149,7 @@ module _ (y : YardView) (limit n b : ℕ) (seats news : List Sitting) (shifts ss
     are_seats = o.seats;
     count = (let a = all_long n b shifts ss p.count few in let e = suc-mul b n in let f : b + 1 ≡ suc b = omega arith in let g : (b + 1) * n ≡ suc b * n = ap (λ (k : ℕ). k * n) f in omega arith);
     each = λ i w at_w.
-        let low = within news i w at_w in let t = o.team in let u = p.team in let m = few in
+        let low = slice_get_within news i w at_w in let t = o.team in let u = p.team in let m = few in
         let v = some_at seats i (omega arith) in let s = some_at ss i (omega arith) in
         let k = o.work i v.0 w s.0 v.1 at_w s.1 in let is = p.are_seats i v.0 v.1 in
         done_next n b shifts ss p.count few y.base limit i v.0.view.own.notes k.noted w.view.own.notes v.0.view.own.posts k.posted w.view.own.posts k.drawn s.0 (omega arith) s.1

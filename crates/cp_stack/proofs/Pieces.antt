@@ -1,8 +1,9 @@
 -- Texts of the members of a list, one after the other.
-use Rattle.std.proofs.Common.{◌≡◌, true, false, cond, not, ℕ, ◌+◌, ◌<◌, List, [], ◌∷◌, ◌++◌, map, length, drop, get_or, refl, sym, ◌∙◌, ap}
+use Rattle.std.proofs.Common.{◌≡◌, true, false, cond, not, ℕ, ◌+◌, ◌<◌, List, ◌∷◌, ◌++◌, length, drop, get_or, sym, ◌∙◌, ap}
 use Rattle.std.specs.Prelude.{◌==◌}
 use Rattle.std.specs.List.{flat_map}
 use Rattle.std.proofs.lemmas.List.{drop_more, length-map}
+use Rattle.std.proofs.lemmas.List.Folds.{flat_map-map}
 use Rattle.cp_io.specs.declared.role.Role.{Role}
 use Rattle.cp_io.specs.Port.{Ports}
 use Rattle.cp_io.specs.Prints.{Buffered, Prints}
@@ -31,11 +32,6 @@ pub Prints-passed : {role : Role} (f : ℕ → List ℕ) (whole xs : List ℕ) (
 Prints-passed f whole xs l i d low same m =
     let is : without (drop i xs) l ≡ without (drop (i + 1) xs) l = ap (λ ys. without ys l) (drop_more xs i d low) ∙ ap (λ b. cond (not b) (get_or xs i d ∷ without (drop (i + 1) xs) l) (without (drop (i + 1) xs) l)) same in
     (m.0, m.1, ap (λ ys. m.0 ++ flat_map f ys) (sym is) ∙ m.2)
-
--- the texts of the images of a list
-pub flat_map-map : {X Y A : Type 0} (f : Y → List A) (g : X → Y) (xs : List X) → flat_map f (map g xs) ≡ flat_map (λ x. f (g x)) xs
-flat_map-map f g [] = refl
-flat_map-map f g (x ∷ xs) = ap (λ ys. f (g x) ++ ys) (flat_map-map f g xs)
 
 -- the text of a stack, from the pairs that are held
 pub stack_text-held : (variables : ℕ) (pairs : Roomy HeldPair)

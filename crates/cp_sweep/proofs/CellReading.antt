@@ -1,7 +1,7 @@
 -- The cell of a variable, read out of the cells of a formula.
 use Rattle.std.proofs.Common.{◌≡◌, ℕ, ◌+◌, ◌-◌, ◌<◌, ◌≤◌, List, length, get_or, Some, None, sym, ◌∙◌, ap, arith}
 use Rattle.std.specs.List.{slice_get}
-use Rattle.std.proofs.lemmas.Option.{get_or_from_slice_get, slice_get-get_or}
+use Rattle.std.proofs.lemmas.Option.{none-some, get_or_from_slice_get, slice_get-get_or}
 use Rattle.cp_logic.specs.Formulas.{Formula, occurrences}
 use Rattle.cp_occ.specs.Cells.{CellView}
 use Rattle.cp_occ.specs.Changes.{AreCellsOf}
@@ -13,13 +13,10 @@ module _ (f : Formula) (cells : List CellView) (a : AreCellsOf f cells) (x : ℕ
 
   -- there is one
   pub cell-there : slice_get cells (x - 1) ≡ None → ⊥
-  cell-there h = absurd (none_some (get_or cells (x - 1) blank) (sym h ∙ slice_get-get_or cells (x - 1) blank place))
+  cell-there h = absurd (none-some (get_or cells (x - 1) blank) (sym h ∙ slice_get-get_or cells (x - 1) blank place))
     where
       blank : CellView
       blank = record { variable = 0; clauses = Rattle.std.proofs.Common.[]; spare = 0 }
-
-      none_some : (c : CellView) → None ≡ Some c → ⊥
-      none_some c e = cc
 
   -- it is that of the variable, and lists its occurrences
   pub cell-is : (cell : CellView) → slice_get cells (x - 1) ≡ Some cell → (cell.variable ≡ x) × (cell.clauses ≡ occurrences f.clauses x)

@@ -6,6 +6,8 @@ use Rattle.std.proofs.lemmas.Bool.{cases_eq, cases_lt, false_from_ne_true, false
 use Rattle.std.proofs.lemmas.List.{append-nil, length-set}
 use Rattle.std.proofs.lemmas.List.Sums.{sum_by-append}
 use Rattle.std.proofs.Math.Nat.{suc-mul}
+use Rattle.std.proofs.Math.Seq.{take-length}
+use Rattle.std.proofs.lemmas.Option.{none-some}
 use Rattle.cp_logic.specs.declared.settings.Rules.{Rules}
 use Rattle.cp_logic.specs.declared.stop.Stop.{Stop}
 use Rattle.cp_logic.specs.declared.stop.Stop.TheVariants.{Refuted, Spent, Numbers}
@@ -19,7 +21,7 @@ use Rattle.cp_logic.proofs.Members.{any_member, any_from}
 use Rattle.cp_logic.proofs.Locals.{find_none}
 use Rattle.cp_logic.proofs.Totals.{in_range}
 use Rattle.cp_logic.proofs.Bounds.{commits-bounded}
-use Rattle.cp_logic.proofs.JournalRuns.{journal-formula, folded-push, post-may_follow, take-one_more, take-whole}
+use Rattle.cp_logic.proofs.JournalRuns.{journal-formula, folded-push, post-may_follow, take-one_more}
 use Rattle.cp_sweep.specs.Marks.{is_marked, marked, with_marks, IsFirstAround}
 use Rattle.cp_sweep.specs.Cursor.{Cursor, Turn, left_at, touched_by, sweep_post, moved, after_post, after_nothing, turn_for, next_turn}
 use Rattle.cp_sweep.specs.Swept.{IsSweptAfter}
@@ -100,7 +102,7 @@ pub record IsUnderWay (f : Formula) (rules : Rules) (before : List Post) (c : Cu
 -- numbers are to spare after a legal journal where they were before it
 pub numbers-left : (f : Formula) (rules : Rules) (posts : List Post) → f.next ≤ number_limit → IsLegalJournal f rules posts → (folded f posts).formula.next ≤ number_limit
 unfolding folded
-numbers-left f rules posts h legal = subst (λ (ps : List Post). (folded f ps).formula.next ≤ number_limit) (take-whole posts) (up_to (length posts) (omega arith))
+numbers-left f rules posts h legal = subst (λ (ps : List Post). (folded f ps).formula.next ≤ number_limit) (take-length posts) (up_to (length posts) (omega arith))
   where
     up_to : (n : ℕ) → n ≤ length posts → (folded f (take n posts)).formula.next ≤ number_limit
     up_to zero m = h
@@ -282,9 +284,6 @@ fewer most made room after now h q =
     let p = suc-mul (most - (made + 1)) (room + 1) in
     rw (e, p) (omega arith)
 
-not_stopped : (s : Stop) → Some s ≡ None → ⊥
-not_stopped s h = cc
-
 -- a turn, without the names of what it leaves
 abbrev turn_of : Option Stop → Cursor → Turn
 turn_of s c = record { stop = s; cursor = c }
@@ -296,7 +295,7 @@ searches-fewer f rules before c d v w there h = at_empty (has_empty (left_at f c
   where
     posted : (e : Entry) (b : Bool) → first (left_at f c) rules c.mark ≡ Some e → cond b (turn_of None (after_post c e)) (turn_of (Some Numbers) c) ≡ turn_of None d
         → searches_left f rules d < searches_left f rules c
-    posted e false s t = absurd (not_stopped Numbers (ap (λ (t : Turn). t.stop) t))
+    posted e false s t = absurd (none-some Numbers (sym (ap (λ (t : Turn). t.stop) t)))
     posted e true s t =
         let at : after_post c e ≡ d = ap (λ (t : Turn). t.cursor) t in
         let one = commits-push c.posts e (first-no_look (left_at f c) rules c.mark e s) in
@@ -317,12 +316,12 @@ searches-fewer f rules before c d v w there h = at_empty (has_empty (left_at f c
 
     at_spent : (b : Bool) → cond b (turn_of (Some Spent) c) (turn_for (left_at f c) c (first (left_at f c) rules c.mark)) ≡ turn_of None d
         → searches_left f rules d < searches_left f rules c
-    at_spent true t = absurd (not_stopped Spent (ap (λ (t : Turn). t.stop) t))
+    at_spent true t = absurd (none-some Spent (sym (ap (λ (t : Turn). t.stop) t)))
     at_spent false t = found (first (left_at f c) rules c.mark) refl t
 
     at_empty : (b : Bool) → cond b (turn_of (Some Refuted) c) (cond (is_spent rules (commits c.posts)) (turn_of (Some Spent) c) (turn_for (left_at f c) c (first (left_at f c) rules c.mark))) ≡ turn_of None d
         → searches_left f rules d < searches_left f rules c
-    at_empty true t = absurd (not_stopped Refuted (ap (λ (t : Turn). t.stop) t))
+    at_empty true t = absurd (none-some Refuted (sym (ap (λ (t : Turn). t.stop) t)))
     at_empty false t = at_spent (is_spent rules (commits c.posts)) t
 
 -- ---- what a turn comes to
@@ -335,7 +334,7 @@ under_way-next f rules before c d v w there h legal = at_empty (has_empty (left_
     posted : (e : Entry) (b : Bool) → has_empty (left_at f c).clauses ≡ false → is_spent rules (commits c.posts) ≡ false → first (left_at f c) rules c.mark ≡ Some e
         → nat_le ((left_at f c).next + length (new_clauses e)) number_limit ≡ b
         → cond b (turn_of None (after_post c e)) (turn_of (Some Numbers) c) ≡ turn_of None d → IsUnderWay f rules before d
-    posted e false filled unspent s fits t = absurd (not_stopped Numbers (ap (λ (t : Turn). t.stop) t))
+    posted e false filled unspent s fits t = absurd (none-some Numbers (sym (ap (λ (t : Turn). t.stop) t)))
     posted e true filled unspent s fits t =
         let at : after_post c e ≡ d = ap (λ (t : Turn). t.cursor) t in
         subst (IsUnderWay f rules before) at (turn-posted f rules v before c w there filled unspent e s fits (subst (λ (k : Cursor). IsLegalJournal f rules k.posts) (sym at) legal))
@@ -347,13 +346,13 @@ under_way-next f rules before c d v w there h legal = at_empty (has_empty (left_
 
     at_spent : (b : Bool) → has_empty (left_at f c).clauses ≡ false → is_spent rules (commits c.posts) ≡ b
         → cond b (turn_of (Some Spent) c) (turn_for (left_at f c) c (first (left_at f c) rules c.mark)) ≡ turn_of None d → IsUnderWay f rules before d
-    at_spent true filled unspent t = absurd (not_stopped Spent (ap (λ (t : Turn). t.stop) t))
+    at_spent true filled unspent t = absurd (none-some Spent (sym (ap (λ (t : Turn). t.stop) t)))
     at_spent false filled unspent t = found (first (left_at f c) rules c.mark) filled unspent refl t
 
     at_empty : (b : Bool) → has_empty (left_at f c).clauses ≡ b
         → cond b (turn_of (Some Refuted) c) (cond (is_spent rules (commits c.posts)) (turn_of (Some Spent) c) (turn_for (left_at f c) c (first (left_at f c) rules c.mark))) ≡ turn_of None d
         → IsUnderWay f rules before d
-    at_empty true e t = absurd (not_stopped Refuted (ap (λ (t : Turn). t.stop) t))
+    at_empty true e t = absurd (none-some Refuted (sym (ap (λ (t : Turn). t.stop) t)))
     at_empty false e t = at_spent (is_spent rules (commits c.posts)) e refl t
 
 -- a turn that stops ends the sweep
@@ -365,7 +364,7 @@ under_way-stop f rules before c d r v w there h = at_empty (has_empty (left_at f
     carried s t i = subst (λ (u : Turn). IsSweptAfter f rules before u.cursor.posts (left_at f u.cursor) u.stop) t i
 
     going : (k : Cursor) → turn_of None k ≡ turn_of (Some r) d → ⊥
-    going k t = not_stopped r (sym (ap (λ (u : Turn). u.stop) t))
+    going k t = none-some r (ap (λ (u : Turn). u.stop) t)
 
     posted : (e : Entry) (b : Bool) → has_empty (left_at f c).clauses ≡ false → is_spent rules (commits c.posts) ≡ false → first (left_at f c) rules c.mark ≡ Some e
         → nat_le ((left_at f c).next + length (new_clauses e)) number_limit ≡ b

@@ -1,5 +1,6 @@
 -- What is seen of an input that may be longer than its limit.
 use Rattle.std.proofs.Common.{◌≡◌, ℕ, zero, suc, ◌+◌, ◌≤◌, Bool, false, ltb, List, [], ◌∷◌, ◌++◌, length, take, drop, refl, sym, ap, arith}
+use Rattle.std.proofs.lemmas.Bool.{le-ltb}
 use Rattle.std.proofs.lemmas.Bool.Decides.{nat_tests}
 use Rattle.std.proofs.Math.Numerals.{add-one}
 use Rattle.std.proofs.lemmas.List.{take_all, drop_all}
@@ -40,12 +41,9 @@ sees-all limit input within = rw (take_all limit input within, drop_all limit in
 
 -- ---- an input
 
-not_before : (a b : ℕ) → b ≤ a → ltb a b ≡ false
-not_before a b h = grind (arith, nat_tests)
-
 pub seen-whole : (limit : ℕ) (input : List ℕ) → length input ≤ limit → (input ≡ take limit input) × (false ≡ goes_on (drop limit input)) × (false ≡ ltb limit (length input)) × (lines_within limit input ≡ lines_from 0 input)
 seen-whole limit input short =
-    (sym (take_all limit input short), ap goes_on (sym (drop_all limit input short)), sym (not_before limit (length input) short), sees-all limit input short)
+    (sym (take_all limit input short), ap goes_on (sym (drop_all limit input short)), sym (le-ltb limit (length input) short), sees-all limit input short)
 
 pub seen-front : (limit : ℕ) (input text behind : List ℕ) (cut : Bool) → text ≡ take limit input → behind ≡ drop limit input → cut ≡ goes_on behind → lines_within limit input ≡ lines_seen cut 0 text
 unfolding lines_within

@@ -5,7 +5,7 @@ use Rattle.std.specs.Option.{option_and_then}
 use Rattle.std.specs.Char.{is_ascii_digit}
 use Rattle.std.specs.List.{list_any}
 use Rattle.std.specs.Str.{all_ascii_digits}
-use Rattle.std.proofs.lemmas.Bool.{and_parts}
+use Rattle.std.proofs.lemmas.Bool.{and_parts, or_parts}
 use Rattle.std.proofs.lemmas.Bool.Decides.{nat_tests}
 use Rattle.std.proofs.lemmas.Str.Parse.{IsNumeralModel, numerals_by_fold}
 use Rattle.std.proofs.lemmas.Fmt.{digits_decimal, digits_value-decimal, decimal_nonempty}
@@ -14,7 +14,7 @@ use Rattle.std.proofs.Math.ListN.{get_or-append}
 use Rattle.cp_text.specs.Numbers.{digits_from, digits_value, plus, minus, number_of}
 use Rattle.cp_text.specs.Text.{Word, Line, separates, lines_from}
 use Rattle.cp_text.specs.Items.{with_word, IsWordFront}
-use Rattle.cp_text.proofs.WordFronts.{or_false, word_front}
+use Rattle.cp_text.proofs.WordFronts.{word_front}
 
 abbrev read_on : ℕ → List ℕ → ℕ
 read_on n [] = n
@@ -125,8 +125,8 @@ AreLines (line ∷ lines) = AreWords line × AreLines lines
 
 solid_at : (w : List ℕ) (k : ℕ) → list_any separates w ≡ false → k < length w → separates (get_or w k 0) ≡ false
 solid_at [] k h low = absurd (omega arith)
-solid_at (b ∷ w) zero h low = (or_false (separates b) (list_any separates w) h).0
-solid_at (b ∷ w) (suc k) h low = solid_at w k (or_false (separates b) (list_any separates w) h).1 (omega arith)
+solid_at (b ∷ w) zero h low = (or_parts (separates b) (list_any separates w) h).0
+solid_at (b ∷ w) (suc k) h low = solid_at w k (or_parts (separates b) (list_any separates w) h).1 (omega arith)
 
 -- a word in front of a text that begins with a separator
 word_then : (p : ℕ) (w : List ℕ) (b : ℕ) (rest : List ℕ) → IsWord w → separates b ≡ true → lines_from p (w ++ b ∷ rest) ≡ with_word (record { at = p; bytes = w }) (lines_from (p + length w) (b ∷ rest))

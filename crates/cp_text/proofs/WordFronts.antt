@@ -1,14 +1,11 @@
 -- The word that a text begins with is the first word of its first line.
 use Rattle.std.proofs.Common.{◌≡◌, ◌≢◌, ℕ, zero, suc, ◌+◌, ◌<◌, ◌≤◌, Bool, true, false, eqb, cond, List, [], ◌∷◌, length, take, drop, get_or, refl, sym, ◌∙◌, ap, subst, arith}
 use Rattle.std.specs.Prelude.{◌||◌}
+use Rattle.std.proofs.lemmas.Bool.{or_parts}
 use Rattle.std.proofs.lemmas.Bool.Decides.{nat_tests}
 use Rattle.std.proofs.lemmas.List.{length-take-le, length-drop}
 use Rattle.cp_text.specs.Text.{Word, Line, is_blank, separates, onto_words, onto_line, lines_from}
 use Rattle.cp_text.specs.Items.{IsWordFront, with_word}
-
-pub or_false : (a b : Bool) → (a || b) ≡ false → (a ≡ false) × (b ≡ false)
-or_false true b e = absurd cc
-or_false false b e = (refl, e)
 
 -- the first word of the first line, if there is one, begins at this place or behind it
 abbrev WordsFrom : ℕ → List Word → Type 0
@@ -83,7 +80,7 @@ longer p b bytes (line ∷ lines) = ap (λ (ws : List Word). record { words = ws
 
 word_byte : (p b : ℕ) (bytes : List ℕ) → separates b ≡ false → lines_from p (b ∷ bytes) ≡ onto_line p b (lines_from (p + 1) bytes)
 unfolding lines_from
-word_byte p b bytes h = let parts = or_false (eqb b 10) (is_blank b) h in rw (parts.0, parts.1) refl
+word_byte p b bytes h = let parts = or_parts (eqb b 10) (is_blank b) h in rw (parts.0, parts.1) refl
 
 -- the word that a text begins with, and the lines behind it
 pub word_front : (p : ℕ) (text : List ℕ) (n : ℕ) → 0 < n → IsWordFront text n → lines_from p text ≡ with_word (record { at = p; bytes = take n text }) (lines_from (p + n) (drop n text))

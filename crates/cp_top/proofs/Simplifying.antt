@@ -1,8 +1,7 @@
 -- A journal that is the sweep's from a formula simplifies it.
-use Rattle.std.proofs.Common.{◌≡◌, ℕ, ◌-◌, ◌<◌, ◌≤◌, Bool, true, false, cond, Option, Some, None, is_some, List, [], refl, sym, ◌∙◌, arith}
-use Rattle.std.specs.List.{Contains, list_any, range_with_len}
+use Rattle.std.proofs.Common.{◌≡◌, ℕ, ◌≤◌, Bool, true, false, cond, Option, Some, None, is_some, List, [], refl, sym, ◌∙◌, arith}
+use Rattle.std.specs.List.{list_any, range_with_len}
 use Rattle.std.proofs.lemmas.Bool.{and_parts}
-use Rattle.std.proofs.lemmas.List.FromFn.{length-range_with_len, get_or-range_with_len}
 use Rattle.cp_logic.specs.declared.settings.Rules.{Rules}
 use Rattle.cp_logic.specs.declared.stop.Stop.{Stop}
 use Rattle.cp_logic.specs.declared.stop.Stop.TheVariants.{Spent, Numbers, Refuted}
@@ -12,6 +11,7 @@ use Rattle.cp_logic.specs.Legality.{applies, first, first_in, is_legal, is_legal
 use Rattle.cp_logic.specs.Journals.{Post, commits, folded}
 use Rattle.cp_logic.specs.Sweeps.{is_applicable, is_spent, stop_of}
 use Rattle.cp_logic.proofs.Members.{any_from}
+use Rattle.cp_logic.proofs.Totals.{in_range}
 use Rattle.cp_logic.proofs.Complete.{nothing-missed}
 use Rattle.cp_logic.proofs.JournalRuns.{journal-run, journal-satisfiable, journal-completed}
 use Rattle.cp_top.specs.Simplified.{IsSimplified, NothingApplies}
@@ -45,17 +45,12 @@ first-none : (f : Formula) (rules : Rules) (x : ℕ) → has_empty f.clauses ≡
 unfolding first
 first-none f rules x h e = rw h at e
 
-in_range : (n x : ℕ) → 1 ≤ x → x ≤ n → Contains (range_with_len 1 n) x
-in_range n x low high =
-    let below : x - 1 < n = omega arith in
-    (x - 1, omega (arith, length-range_with_len 1 n), get_or-range_with_len 1 n (x - 1) x below ∙ omega arith)
-
 not_applicable : (f : Formula) (rules : Rules) (x : ℕ) → list_any (is_applicable f rules) (range_with_len 1 f.variables) ≡ false → 1 ≤ x → x ≤ f.variables → is_applicable f rules x ≡ false
 not_applicable f rules x none low high = go (is_applicable f rules x) refl
   where
     go : (b : Bool) → is_applicable f rules x ≡ b → is_applicable f rules x ≡ false
     go false e = e
-    go true e = let found = any_from (is_applicable f rules) (range_with_len 1 f.variables) x (in_range f.variables x low high) e in cc
+    go true e = let found = any_from (is_applicable f rules) (range_with_len 1 f.variables) x (in_range f.variables 1 x low (omega arith)) e in cc
 
 -- where no variable is applicable, nothing applies
 nothing-applies : (f : Formula) (rules : Rules) → has_empty f.clauses ≡ false → list_any (is_applicable f rules) (range_with_len 1 f.variables) ≡ false → NothingApplies f rules

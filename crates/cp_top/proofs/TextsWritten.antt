@@ -1,20 +1,16 @@
 -- The texts of a command are written one after the other.
-use Rattle.std.proofs.Common.{◌≡◌, ◌≢◌, ◌≤◌, ℕ, Bool, true, false, cond, List, [], ◌∷◌, ◌++◌, Option, Some, None, Result, Ok, Err, inl, inr, refl, sym, ◌∙◌, ap, arith}
+use Rattle.std.proofs.Common.{◌≡◌, ◌≢◌, ◌≤◌, ℕ, Bool, true, false, cond, List, [], ◌∷◌, ◌++◌, Option, Result, Ok, Err, inl, inr, refl, sym, ◌∙◌, ap, arith}
 use Rattle.std.specs.Prelude.{◌||◌}
 use Rattle.std.specs.Io.KnownBytes.{append_known}
 use Rattle.std.specs.Result.{is_err}
-use Rattle.std.proofs.lemmas.List.{append-nil}
 use Rattle.cp_io.specs.declared.desk.Failed.{Failed}
 use Rattle.cp_io.specs.declared.role.Role.{Role}
 use Rattle.cp_io.specs.Roles.{same_role}
 use Rattle.cp_io.specs.Port.{Port, Ports, AtRole, Writes}
 use Rattle.cp_io.proofs.RoleCases.{role_cases, kept}
+use Rattle.cp_io.proofs.Writing.{append_known-nil}
 use Rattle.cp_top.specs.Texts.{Written, write, text_of, is_written, texts_before, HaveGrown, HaveStopped, NothingGrew, OnlyWrites, WrittenSoFar, FailedToWrite}
 use Rattle.cp_top.proofs.RolesBound.{same_role-refl, same_role-apart}
-
-append_known-none : (h : Option (List ℕ)) → append_known h [] ≡ h
-append_known-none None = refl
-append_known-none (Some xs) = ap Some (append-nil xs)
 
 -- a text behind others that aren't of its role
 text-here : (ws after : List Written) (w : Written) → texts_before w.role ws ≡ ws → text_of (ws ++ w ∷ after) w.role ≡ w.text
@@ -57,7 +53,7 @@ listed-here (v ∷ ws) after w = go (same_role v.role w.role) (listed-here ws af
 grown-by : (ws : List Written) (role : Role) (text : List ℕ) (old mid new : Ports) → HaveGrown ws old mid → texts_before role ws ≡ ws
     → (new role).held ≡ append_known (mid role).held text → ((r : Role) → r ≢ role → (new r).held ≡ (mid r).held) → HaveGrown (ws ++ write role text ∷ []) old new
 grown-by ws role text old mid new grown apart here others r = elim (role_cases r role) [
-  | inl same ↦ rw (same, text-here ws [] (write role text) apart) (here ∙ ap (λ (h : Option (List ℕ)). append_known h text) (grown role ∙ ap (append_known (old role).held) (text-none ws role apart) ∙ append_known-none (old role).held))
+  | inl same ↦ rw (same, text-here ws [] (write role text) apart) (here ∙ ap (λ (h : Option (List ℕ)). append_known h text) (grown role ∙ ap (append_known (old role).held) (text-none ws role apart) ∙ append_known-nil (old role).held))
   | inr other ↦ rw (text-apart ws (write role text) r other) (others r other ∙ grown r)
 ]
 
@@ -81,7 +77,7 @@ writes-then a b c m n = record { way = λ r. n.way r ∙ m.way r; name = λ r. n
 
 pub none-written : (ports : Ports) → WrittenSoFar [] ports ports
 none-written ports = record {
-  grown = λ r. sym (append_known-none (ports r).held);
+  grown = λ r. sym (append_known-nil (ports r).held);
   rest = record { way = λ r. refl; name = λ r. refl; read_faults = λ r. refl };
   faults = λ r. omega arith;
 }

@@ -6,6 +6,7 @@ use Rattle.std.proofs.lemmas.Grind.{flat_map-append}
 use Rattle.std.proofs.lemmas.Bool.{false≢true}
 use Rattle.std.proofs.lemmas.List.{map-append}
 use Rattle.std.proofs.lemmas.List.Elements.{All-nil, All-cons, All-append, All-weaker, All-same, Contains-append_left, Contains-append_right, Contains-push, Contains-push_cases}
+use Rattle.std.proofs.lemmas.Option.{same_Some}
 use Rattle.cp_logic.specs.declared.stop.Stop.{Stop}
 use Rattle.cp_logic.specs.Entries.{Entry}
 use Rattle.cp_logic.specs.Journals.{Post}
@@ -30,9 +31,6 @@ in_end n before noted (first, e) = Contains-append_right before noted n (subst (
 
 none_some : {X : Type 0} (o : Option X) (x : X) → o ≡ None → o ≡ Some x → ⊥
 none_some o x e h = cc
-
-some_same : {X : Type 0} (x y : X) → Some x ≡ Some y → x ≡ y
-some_same x y e = cc
 
 pub none_from : {X : Type 0} (o : Option X) (b : Bool) → b ≡ is_some o → b ≡ false → o ≡ None
 none_from None b e f = refl
@@ -71,7 +69,7 @@ module _ (f : Base) (number x in_round limit : ℕ) (noted more : List Note) (po
   stopped_here (Wide count) stop earlier o now h n e s = absurd (none_some o stop n (sym e ∙ s))
   stopped_here (TurnHeld by commits) stop earlier o now h n e s = absurd (none_some o stop n (sym e ∙ s))
   stopped_here (Stopped found commits) stop earlier o now (j, entry, ended, gives, refused) n e s =
-      subst (IsStopped f (noted ++ more) (posted ++ posts) (earlier ++ x ∷ [])) (some_same found stop (sym e ∙ s))
+      subst (IsStopped f (noted ++ more) (posted ++ posts) (earlier ++ x ∷ [])) (same_Some found stop (sym e ∙ s))
       (x, (earlier, refl), (posted, posts, refl, (j, entry, EndWith-later (GotTurn j) noted more ended, gives_later x posts (Some entry) gives, refused)))
 
   -- the candidate itself

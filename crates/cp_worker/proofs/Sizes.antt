@@ -1,9 +1,10 @@
 -- A commit at a variable lowers the size of the variable's clauses.
-use Rattle.std.proofs.Common.{◌≡◌, ℕ, ◌+◌, ◌<◌, ◌≤◌, true, false, List, [], ◌∷◌, ◌++◌, length, refl, sym, ◌∙◌, ap, subst, inl, inr, not, arith}
-use Rattle.std.specs.Prelude.{◌==◌, ◌&&◌, map}
+use Rattle.std.proofs.Common.{◌≡◌, ℕ, ◌+◌, ◌<◌, ◌≤◌, true, List, [], ◌∷◌, ◌++◌, length, refl, sym, ◌∙◌, ap, subst, inl, inr, not, arith}
+use Rattle.std.specs.Prelude.{◌==◌, ◌&&◌, map, sum_by}
 use Rattle.std.specs.List.{Contains, filter, flat_map}
 use Rattle.std.proofs.lemmas.Bool.{false≢true, and_from, eqb-true, eq-eqb, not_from_true}
 use Rattle.std.proofs.lemmas.List.Elements.{Contains-append_left, Contains-append_right}
+use Rattle.std.proofs.lemmas.List.Sums.{sum_by-append}
 use Rattle.cp_logic.specs.declared.named.Named.{Named}
 use Rattle.cp_logic.specs.declared.settings.Rules.{Rules}
 use Rattle.cp_logic.specs.Literals.{negated, positive, negative, variable_of}
@@ -17,22 +18,22 @@ use Rattle.cp_logic.proofs.LiteralFacts.{same_variable, variable_of-positive, ne
 use Rattle.cp_logic.proofs.SetFacts.{no_members, of_without, of_resolvent, tautology-from}
 use Rattle.cp_logic.proofs.Parts.{IsStrengthen, IsEliminate, taut-parts, subsume-parts, strengthen-parts, block-parts, eliminate-parts}
 use Rattle.cp_logic.proofs.Bounds.{tests, left_out}
-use Rattle.cp_logic.proofs.Totals.{total, total-append, total-filter, total-without, length-without}
+use Rattle.cp_logic.proofs.Totals.{sum_by-filter_le, sum_by-without, length-without}
 
 -- the clause's literals, and one more, so that each clause counts
 abbrev literals : Named → ℕ
 literals c = length c.clause + 1
 
 abbrev pub size : List Named → ℕ
-size cs = total literals cs
+size cs = sum_by literals cs
 
 -- a clause goes, and others come that are smaller together
 changed : (cs new : List Named) (ns : List ℕ) (x : ℕ) (gone : Named) → Contains cs gone → Contains ns gone.number → size new < literals gone
     → size (without_numbers cs ns ++ occurrences new x) < size cs
 changed cs new ns x gone i j less =
-    let a : size (without_numbers cs ns ++ occurrences new x) ≡ size (without_numbers cs ns) + size (occurrences new x) = total-append literals (without_numbers cs ns) (occurrences new x) in
-    let b : size (occurrences new x) ≤ size new = total-filter literals (λ (c : Named). has_variable x c.clause) new in
-    let d : size (without_numbers cs ns) + literals gone ≤ size cs = total-without literals (tests ns) cs gone i (left_out ns gone j) in
+    let a : size (without_numbers cs ns ++ occurrences new x) ≡ size (without_numbers cs ns) + size (occurrences new x) = sum_by-append literals (without_numbers cs ns) (occurrences new x) in
+    let b : size (occurrences new x) ≤ size new = sum_by-filter_le (λ (c : Named). has_variable x c.clause) literals new in
+    let d : size (without_numbers cs ns) + literals gone ≤ size cs = sum_by-without (tests ns) literals cs gone i (left_out ns gone j) in
     omega arith
 
 removed : (cs : List Named) (x : ℕ) (gone : Named) → Contains cs gone → size (without_numbers cs (gone.number ∷ []) ++ occurrences [] x) < size cs

@@ -5,6 +5,7 @@ use Rattle.std.proofs.lemmas.List.{map-append, map-id}
 use Rattle.std.proofs.lemmas.List.FromFn.{length-range_with_len}
 use mathlib.Core.Option.{some, some-injective, some-ne-none}
 use mathlib.Core.Logic.{dite}
+use Rattle.std.proofs.lemmas.Option.{none-some}
 use native.Mathlib.Decide.{ℕ_discrete}
 use lib.ListN.{get_elem?, length-map, length-replicate}
 use Rattle.atomic_table.specs.Table.{opening, Final, Seen}
@@ -21,7 +22,7 @@ use Rattle.cp_yard.specs.declared.item.Item.{Item}
 use Rattle.cp_yard.specs.declared.item.Item.TheVariants.{OfVariable, OfTurn}
 use Rattle.cp_yard.specs.Views.{Base, Share, SeatView, base_of, founder, all_shares, held_of, shares_of, times, once_below}
 use Rattle.cp_yard.specs.Rule.{IsCellOf, IsBookOf, IsLegal, Knows, Stands, Account, IsAlone, clauses_at}
-use Rattle.cp_yard.proofs.Lists.{in_front, total_one, total_two, times_in, once_le, in_range, none_some}
+use Rattle.cp_yard.proofs.Lists.{in_front, term-le-sum_by, two_terms-le-sum_by, times_in, once_le, in_range}
 use Rattle.cp_yard.proofs.Frame.{St, mine_among, shares_alive}
 
 -- ---- cells in their order
@@ -114,8 +115,8 @@ opens b cells m legal zeroth all = let f : Base = base_of b in let items : List 
       own = refl;
       made = λ _. refl;
       shares = λ k a. ⊎_elim (λ (e : k ≡ (founder b).own). subst (λ (z : Share). (z.posts ≡ posts_of b.posts z.number) × (z.notes ≡ [])) (sym e) (refl, refl)) (λ c. absurd (none_in k c)) (in_front k (founder b).own [] a);
-      turn = λ j e. absurd (none_some j e);
-      held = λ x l e. absurd (none_some l e);
+      turn = λ j e. absurd (none-some j e);
+      held = λ x l e. absurd (none-some l e);
     }
     only (suc i) v at = absurd (some-ne-none v (sym at))
 
@@ -133,7 +134,7 @@ module _ (f : Base) where
       (λ ne. let okw = r.seats i w there_w lives_w in let made = ok.made id_is in let inside = in_range s.views i w there_w in
       let a : 0 < times i (shares_of v) = subst (λ (ks : List Share). 0 < times i ks) (sym (shares_alive v lives)) (alone.3 i (omega arith)) in
       let b : 0 < times i (shares_of w) = times_in i w.own (shares_of w) (mine_among w lives_w) okw.own in
-      let c = total_two (λ (z : SeatView). times i (shares_of z)) s.views i id w v ne there_w at in
+      let c = two_terms-le-sum_by (λ (z : SeatView). times i (shares_of z)) s.views i id w v ne there_w at in
       let d = r.numbers i in let g = once_le i (length s.views) in absurd (omega arith))
 
   pub closes : (id : ℕ) (v : SeatView) (ws : List ℕ) (xs : List Item) → v.lives ≡ true → IsAlone v → Final (Seen (Stands f) id v) ws xs
@@ -150,7 +151,7 @@ module _ (f : Base) where
           legal = r.legal;
           workers = subst (λ (c : ℕ). All (λ p. p.worker < c) r.posts) (sym made) r.workers;
           each_share = λ k a. ok.shares k (subst (λ (zs : List Share). Contains zs k) (sym (shares_alive v lives)) a);
-          numbers = λ w. let a = total_one (λ (z : SeatView). times w (shares_of z)) s.views id v at in let b = r.numbers w in let g = once_le w (length s.views) in
+          numbers = λ w. let a = term-le-sum_by (λ (z : SeatView). times w (shares_of z)) s.views id v at in let b = r.numbers w in let g = once_le w (length s.views) in
               let e : times w (shares_of v) ≡ times w (all_shares v) = ap (times w) (shares_alive v lives) in let low : w < v.made → 0 < times w (all_shares v) = alone.3 w in full w (all_shares v) v.made low (let q : once_below w v.made ≡ once_below w (length s.views) = ap (once_below w) made in omega arith);
           true_notes = r.true_notes;
           unused = λ w far. r.unused w (omega arith);

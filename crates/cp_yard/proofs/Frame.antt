@@ -3,6 +3,7 @@ use Rattle.std.proofs.Common.{◌≡◌, ◌≢◌, ℕ, ◌+◌, ◌<◌, ◌�
 use Rattle.std.specs.List.{Contains}
 use mathlib.Core.Option.{some, some-injective}
 use mathlib.Core.Logic.{dite}
+use Rattle.std.specs.Prelude.{sum_by}
 use native.Mathlib.Decide.{ℕ_discrete}
 use lib.ListN.{get_elem?}
 use Rattle.atomic_table.specs.Table.{State}
@@ -11,9 +12,9 @@ use Rattle.cp_logic.specs.declared.named.Named.{Named}
 use Rattle.cp_logic.specs.Journals.{Post, posts_of}
 use Rattle.cp_logic.proofs.Members.{in_here}
 use Rattle.cp_yard.specs.declared.item.Item.{Item}
-use Rattle.cp_yard.specs.Views.{Base, Note, Got, GotTurn, Met, MetTurn, Share, SeatView, held_of, shares_of, times, total, once_below}
+use Rattle.cp_yard.specs.Views.{Base, Note, Got, GotTurn, Met, MetTurn, Share, SeatView, held_of, shares_of, times, once_below}
 use Rattle.cp_yard.specs.Rule.{Homes, IsPrefix, IsLegal, IsTrueNote, Knows, IsTurnKept, IsLockKept, Stands, clauses_at}
-use Rattle.cp_yard.proofs.Lists.{total_set, total_one, total_two, times_in, once_le, in_range}
+use Rattle.cp_yard.proofs.Lists.{sum_by-set_at, term-le-sum_by, two_terms-le-sum_by, times_in, once_le, in_range}
 
 abbrev pub St : Type 0
 St = State Item SeatView
@@ -55,14 +56,14 @@ module _ (f : Base) where
       let own : v.own.number ≡ id = (r.seats id v at lives).own in
       let a : 0 < times id (shares_of v) = times_in id v.own (shares_of v) (mine_among v lives) own in
       let b : 0 < times id (shares_of w) = times_in id k (shares_of w) in_w e in
-      let c = total_two (λ (z : SeatView). times id (shares_of z)) s.views id j v w (λ q. ne (sym q)) at there in
+      let c = two_terms-le-sum_by (λ (z : SeatView). times id (shares_of z)) s.views id j v w (λ q. ne (sym q)) at there in
       let d = r.numbers id in let g = once_le id (length s.views) in omega arith
 
   pub others_not_mine : (s : St) (r : Stands f s) (id : ℕ) (v : SeatView) → get_elem? s.views id ≡ some v → v.lives ≡ true → (k : Share) → Contains v.others k → k.number ≢ id
   others_not_mine s r id v at lives k in_v e =
       let own : v.own.number ≡ id = (r.seats id v at lives).own in
       let b : 0 < times id v.others = times_in id k v.others in_v e in
-      let c = total_one (λ (z : SeatView). times id (shares_of z)) s.views id v at in
+      let c = term-le-sum_by (λ (z : SeatView). times id (shares_of z)) s.views id v at in
       let t : times id (shares_of v) ≡ times id (v.own ∷ v.others) = ap (times id) (shares_alive v lives) in
       let u : eqb v.own.number id ≡ true = eq-eqb v.own.number id own in
       let u' : times id (v.own ∷ v.others) ≡ 1 + times id v.others = ap (λ (z : Bool). (if z then 1 else 0) + times id v.others) u in
@@ -130,8 +131,8 @@ module _ (f : Base) where
             (λ j d ne there alive. subst (λ (c : ℕ). Knows f h' notes' (set s.words i n) homes' c j d) (sym count)
             (other_stays r.posts h' r.notes notes' s.words (set s.words i n) s.homes homes' (length s.views) j d (r.seats j d there alive) (λ x. places j x ne) (turns j ne)
             (λ k in_d. let other = not_mine s r id v at lives j d ne there k in_d in let t = apart k.number other in (t.1, t.0))));
-        numbers = λ k. let t = total_set (λ (z : SeatView). times k (shares_of z)) s.views id v w at in let e = same k in let a = r.numbers k in
-            let b : total (λ (z : SeatView). times k (shares_of z)) (set s.views id w) ≡ once_below k (length s.views) = omega arith in b ∙ ap (once_below k) (sym count);
+        numbers = λ k. let t = sum_by-set_at (λ (z : SeatView). times k (shares_of z)) s.views id v w at in let e = same k in let a = r.numbers k in
+            let b : sum_by (λ (z : SeatView). times k (shares_of z)) (set s.views id w) ≡ once_below k (length s.views) = omega arith in b ∙ ap (once_below k) (sym count);
         true_notes = noted;
         unused = λ k far. let out : length s.views ≤ k = omega arith in (apart k (λ e. omega arith)).0 ∙ r.unused k out;
         turn = turn;

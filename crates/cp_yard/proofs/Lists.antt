@@ -4,6 +4,8 @@ use Rattle.std.specs.List.{Contains, filter, enumerate_from}
 use Rattle.std.proofs.lemmas.List.Elements.{filter-append, Contains-append_left, Contains-append_right, Contains-append_cases}
 use mathlib.Core.Option.{some, some-injective, some-ne-none}
 use mathlib.Core.Logic.{dite}
+use Rattle.std.specs.Prelude.{sum_by}
+use Rattle.std.proofs.lemmas.List.Sums.{sum_by-cons}
 use native.Mathlib.Decide.{ℕ_discrete}
 use lib.ListN.{get_elem?}
 use Rattle.cp_logic.specs.declared.named.Named.{Named}
@@ -11,7 +13,7 @@ use Rattle.cp_logic.specs.Entries.{Entry}
 use Rattle.cp_logic.specs.Journals.{Post, posts_of}
 use Rattle.cp_logic.specs.Locality.{after}
 use Rattle.cp_logic.proofs.Members.{none_in, in_here, in_cases}
-use Rattle.cp_yard.specs.Views.{Lock, lock, held_of, without_lock, locks_after, Share, times, total, once_below}
+use Rattle.cp_yard.specs.Views.{Lock, lock, held_of, without_lock, locks_after, Share, times, once_below}
 
 -- ---- locks
 
@@ -64,12 +66,6 @@ none_by n (p ∷ ps) count w all far = let small : p.worker < count = all 0 p (o
 pub posts_of-none : (h : List Post) (count w : ℕ) → All (λ p. p.worker < count) h → count ≤ w → posts_of h w ≡ []
 posts_of-none h count w all far = none_by 0 h count w all far
 
-pub some_same : {A : Type 0} (a b : A) → Some a ≡ Some b → a ≡ b
-some_same a b e = grind arith
-
-pub none_some : {A : Type 0} (a : A) → None ≡ Some a → ⊥
-none_some a e = cc
-
 -- ---- elements
 
 module _ {A : Type 0} where
@@ -91,33 +87,32 @@ module _ {A : Type 0} where
   at_end (x ∷ xs) a b zero e = inl e
   at_end (x ∷ xs) a b (suc j) e = ⊎_elim (λ t. inl t) (λ t. inr (ap suc t.0, t.1)) (at_end xs a b j e)
 
-  -- ---- sums over seats
-
-  pub total_set : (f : A → ℕ) (l : List A) (i : ℕ) (v w : A) → get_elem? l i ≡ some v → total f (set l i w) + f v ≡ total f l + f w
-  total_set f [] i v w e = absurd (some-ne-none v (sym e))
-  total_set f (x ∷ xs) zero v w e = let g : f x ≡ f v = ap f (some-injective x v e) in omega arith
-  total_set f (x ∷ xs) (suc i) v w e = omega (arith, total_set f xs i v w e)
-
-  pub total_snoc : (f : A → ℕ) (l : List A) (w : A) → total f (l ++ w ∷ []) ≡ total f l + f w
-  total_snoc f [] w = omega arith
-  total_snoc f (x ∷ xs) w = omega (arith, total_snoc f xs w)
-
-  pub total_one : (f : A → ℕ) (l : List A) (i : ℕ) (v : A) → get_elem? l i ≡ some v → f v ≤ total f l
-  total_one f [] i v e = absurd (some-ne-none v (sym e))
-  total_one f (x ∷ xs) zero v e = let g : f x ≡ f v = ap f (some-injective x v e) in omega arith
-  total_one f (x ∷ xs) (suc i) v e = omega (arith, total_one f xs i v e)
-
-  pub total_two : (f : A → ℕ) (l : List A) (i j : ℕ) (v w : A) → i ≢ j → get_elem? l i ≡ some v → get_elem? l j ≡ some w → f v + f w ≤ total f l
-  total_two f [] i j v w ne e g = absurd (some-ne-none v (sym e))
-  total_two f (x ∷ xs) zero zero v w ne e g = absurd (ne refl)
-  total_two f (x ∷ xs) zero (suc j) v w ne e g = let a : f x ≡ f v = ap f (some-injective x v e) in omega (arith, total_one f xs j w g)
-  total_two f (x ∷ xs) (suc i) zero v w ne e g = let a : f x ≡ f w = ap f (some-injective x w g) in omega (arith, total_one f xs i v e)
-  total_two f (x ∷ xs) (suc i) (suc j) v w ne e g = omega (arith, total_two f xs i j v w (λ q. ne (ap suc q)) e g)
-
   pub in_range : (l : List A) (i : ℕ) (v : A) → get_elem? l i ≡ some v → i < length l
   in_range [] i v e = absurd (some-ne-none v (sym e))
   in_range (x ∷ xs) zero v e = omega arith
   in_range (x ∷ xs) (suc i) v e = let h : i < length xs = in_range xs i v e in omega arith
+
+-- ---- sums over seats
+
+module _ {A : Type 0} (f : A → ℕ) where
+  pub sum_by-set_at : (l : List A) (i : ℕ) (v w : A) → get_elem? l i ≡ some v → sum_by f (set l i w) + f v ≡ sum_by f l + f w
+  sum_by-set_at [] i v w e = absurd (some-ne-none v (sym e))
+  sum_by-set_at (x ∷ xs) zero v w e = let g : f x ≡ f v = ap f (some-injective x v e) in let a = sum_by-cons f x xs in let b = sum_by-cons f w xs in omega arith
+  sum_by-set_at (x ∷ xs) (suc i) v w e = let a = sum_by-cons f x xs in let b = sum_by-cons f x (set xs i w) in let c = sum_by-set_at xs i v w e in omega arith
+
+  pub term-le-sum_by : (l : List A) (i : ℕ) (v : A) → get_elem? l i ≡ some v → f v ≤ sum_by f l
+  term-le-sum_by [] i v e = absurd (some-ne-none v (sym e))
+  term-le-sum_by (x ∷ xs) zero v e = let g : f x ≡ f v = ap f (some-injective x v e) in let a = sum_by-cons f x xs in omega arith
+  term-le-sum_by (x ∷ xs) (suc i) v e = let a = sum_by-cons f x xs in let b = term-le-sum_by xs i v e in omega arith
+
+  pub two_terms-le-sum_by : (l : List A) (i j : ℕ) (v w : A) → i ≢ j → get_elem? l i ≡ some v → get_elem? l j ≡ some w → f v + f w ≤ sum_by f l
+  two_terms-le-sum_by [] i j v w ne e g = absurd (some-ne-none v (sym e))
+  two_terms-le-sum_by (x ∷ xs) zero zero v w ne e g = absurd (ne refl)
+  two_terms-le-sum_by (x ∷ xs) zero (suc j) v w ne e g = let a : f x ≡ f v = ap f (some-injective x v e) in let b = sum_by-cons f x xs in let c = term-le-sum_by xs j w g in omega arith
+  two_terms-le-sum_by (x ∷ xs) (suc i) zero v w ne e g = let a : f x ≡ f w = ap f (some-injective x w g) in let b = sum_by-cons f x xs in let c = term-le-sum_by xs i v e in omega arith
+  two_terms-le-sum_by (x ∷ xs) (suc i) (suc j) v w ne e g = let b = sum_by-cons f x xs in let c = two_terms-le-sum_by xs i j v w (λ q. ne (ap suc q)) e g in omega arith
+
+-- ---- shares
 
 pub times_in : (w : ℕ) (k : Share) (ks : List Share) → Contains ks k → k.number ≡ w → 0 < times w ks
 times_in w k [] h e = absurd (none_in k h)

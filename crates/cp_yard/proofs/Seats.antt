@@ -5,6 +5,9 @@ use Rattle.std.specs.List.{Contains}
 use Rattle.std.proofs.lemmas.List.Elements.{Contains-append_cases}
 use mathlib.Core.Option.{some, some-injective}
 use mathlib.Core.Logic.{dite}
+use Rattle.std.specs.Prelude.{sum_by}
+use Rattle.std.proofs.lemmas.List.Sums.{sum_by_push}
+use Rattle.std.proofs.lemmas.Option.{none-some}
 use native.Mathlib.Decide.{ℕ_discrete}
 use lib.ListN.{get_elem?}
 use Rattle.atomic_table.specs.Table.{Splits, Joins}
@@ -12,9 +15,9 @@ use Rattle.atomic_table.proofs.Lists.{set_else, at_longer}
 use Rattle.cp_logic.specs.declared.named.Named.{Named}
 use Rattle.cp_logic.specs.Journals.{Post, posts_of}
 use Rattle.cp_logic.proofs.Members.{none_in}
-use Rattle.cp_yard.specs.Views.{Base, Note, Share, SeatView, empty_share, held_of, shares_of, times, total, once_below, parent, child, joined, spent}
+use Rattle.cp_yard.specs.Views.{Base, Note, Share, SeatView, empty_share, held_of, shares_of, times, once_below, parent, child, joined, spent}
 use Rattle.cp_yard.specs.Rule.{Homes, Knows, IsTurnKept, IsLockKept, Stands}
-use Rattle.cp_yard.proofs.Lists.{in_front, at_end, total_set, total_snoc, times-append, in_range, posts_of-none, none_some}
+use Rattle.cp_yard.proofs.Lists.{in_front, at_end, sum_by-set_at, times-append, in_range, posts_of-none}
 use Rattle.cp_yard.proofs.Frame.{shares_alive, seats_put, lock_stays, turn_stays}
 
 all_more : (c d : ℕ) (h : List Post) → c ≤ d → All (λ p. p.worker < c) h → All (λ p. p.worker < d) h
@@ -89,13 +92,13 @@ module _ (f : Base) where
               made = λ e. absurd (far (sym j_is ∙ e));
               shares = λ k a. ⊎_elim (λ (e : k ≡ empty_share v.made). subst (λ (z : Share). (z.posts ≡ posts_of r.posts z.number) × (z.notes ≡ r.notes z.number)) (sym e)
                   (sym (posts_of-none r.posts n v.made r.workers (omega arith)), sym (r.unused v.made (omega arith)))) (λ b. absurd (none_in k b)) (in_front k (empty_share v.made) [] a);
-              turn = λ i e. absurd (none_some i e);
-              held = λ x l e. absurd (none_some l e);
+              turn = λ i e. absurd (none-some i e);
+              held = λ x l e. absurd (none-some l e);
             })
             (at_end vs right d j there));
-        numbers = λ k. let F : SeatView → ℕ = λ z. times k (shares_of z) in let a = total_snoc F vs right in let b = total_set F s.views id v left at in let c = r.numbers k in let d = once_suc k n in
+        numbers = λ k. let F : SeatView → ℕ = λ z. times k (shares_of z) in let a = sum_by_push F vs right in let b = sum_by-set_at F s.views id v left at in let c = r.numbers k in let d = once_suc k n in
             let e : F left ≡ F v = refl in let g : F right ≡ (if n == k then 1 else 0) = (let q : F right ≡ (if v.made == k then 1 else 0) + 0 = refl in q ∙ ap (λ (z : ℕ). (if z == k then 1 else 0) + 0) made ∙ plus_none (if n == k then 1 else 0)) in
-            let t : total F views' ≡ once_below k (n + 1) = omega arith in t ∙ ap (once_below k) count;
+            let t : sum_by F views' ≡ once_below k (n + 1) = omega arith in t ∙ ap (once_below k) count;
         true_notes = r.true_notes;
         unused = λ k out. r.unused k (omega arith);
         turn = turn_longer r.posts s.words s.homes vs (right ∷ []) (turn_stays f r.posts s.words s.words s.homes s.homes s.views id v left at lives refl (λ _. refl) refl r.turn);
@@ -132,9 +135,9 @@ module _ (f : Base) where
               held = ok.held;
             })
             (λ i' y' ne' at' lives''. r.seats i' y' at' lives'') i y at_i) j d at_j alive);
-        numbers = λ k. let F : SeatView → ℕ = λ z. times k (shares_of z) in let a = total_set F vs other w spent there in let b = total_set F s.views id v both at in let c = r.numbers k in
+        numbers = λ k. let F : SeatView → ℕ = λ z. times k (shares_of z) in let a = sum_by-set_at F vs other w spent there in let b = sum_by-set_at F s.views id v both at in let c = r.numbers k in
             let d : F both ≡ F v + F w = ap (times k) (shares_alive both lives) ∙ (times-append k (v.own ∷ v.others) (w.own ∷ w.others) ∙ (λ i. times k (sym (shares_alive v lives) i) + times k (sym (shares_alive w lives') i))) in
-            let e : F spent ≡ 0 = refl in let t : total F views' ≡ once_below k n = omega arith in t ∙ ap (once_below k) count;
+            let e : F spent ≡ 0 = refl in let t : sum_by F views' ≡ once_below k n = omega arith in t ∙ ap (once_below k) count;
         true_notes = r.true_notes;
         unused = λ k out. r.unused k (omega arith);
         turn = turn_left r.posts s.words s.homes vs other w spent there idle (turn_stays f r.posts s.words s.words s.homes s.homes s.views id v both at lives refl (λ _. refl) refl r.turn);

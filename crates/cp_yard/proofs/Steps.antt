@@ -3,6 +3,7 @@ use Rattle.std.proofs.Common.{◌≡◌, ◌≢◌, ℕ, ◌+◌, ◌-◌, ◌<�
 use Rattle.std.specs.List.{Contains}
 use mathlib.Core.Option.{some, none, some-injective}
 use mathlib.Core.Logic.{dite}
+use Rattle.std.proofs.lemmas.Option.{same_Some}
 use native.Mathlib.Decide.{ℕ_discrete}
 use prog.Atomic.{either}
 use lib.ListN.{get_elem?}
@@ -18,7 +19,7 @@ use Rattle.cp_yard.specs.declared.item.Item.TheVariants.{OfVariable, Nothing}
 use Rattle.cp_yard.specs.Views.{Base, Note, Got, GotTurn, Met, Share, SeatView, held_of, without_lock, lock, shares_of, times, noted, reached_lock, with_hand, unlocked}
 use Rattle.cp_yard.specs.Rule.{AreClausesAt, IsCellOf, Homes, IsBare, Knows, IsTrueNote, IsLockKept, Stands, clauses_at}
 use Rattle.cp_yard.specs.Steps.{tries_lock, returns_slot, takes_slot, unlocks}
-use Rattle.cp_yard.proofs.Lists.{in_front, in_snoc, in_left, in_last, in_range, held_of-without, held_of-others, held_of-same, held_of-other, some_same}
+use Rattle.cp_yard.proofs.Lists.{in_front, in_snoc, in_left, in_last, in_range, held_of-without, held_of-others, held_of-same, held_of-other}
 use Rattle.cp_yard.proofs.Frame.{St, put, put_here, put_else, shares_alive, mine_among, note_grows, others_not_mine, lock_stays, turn_stays, moves}
 
 abbrev pub M : Type 0
@@ -185,7 +186,7 @@ module _ (f : Base) where
               shares = noted_shares s r id v at lives note;
               turn = λ j e. let o = ok.turn j e in let ne = other 0 id o.0 in (word 0 ne ∙ o.0, o.1, (λ _. home 0 ne ∙ o.2 (λ q. omega arith)), (o.3.0, in_left (GotTurn o.3.0) v.own.notes (note ∷ []) o.3.1));
               held = λ y k e. dite (ℕ_discrete y x)
-                  (λ q. let k_is : k ≡ l = some_same k l (sym e ∙ (ap (λ (z : ℕ). held_of z (lock x l ∷ v.held)) q ∙ held_of-same x l v.held)) in (
+                  (λ q. let k_is : k ≡ l = same_Some k l (sym e ∙ (ap (λ (z : ℕ). held_of z (lock x l ∷ v.held)) q ∙ held_of-same x l v.held)) in (
                     (let g : 0 < y = omega arith in g),
                     ap (λ (z : ℕ). get_or (set s.words x new) z 0) q ∙ word_is,
                     k_is ∙ (is_occ ∙ ap (clauses_at f r.posts) (sym q)),

@@ -1,5 +1,5 @@
 -- The steps on the turn keep the rule.
-use Rattle.std.proofs.Common.{◌≡◌, ◌≢◌, ℕ, zero, suc, ◌+◌, ◌-◌, ◌<◌, eqb, Bool, true, false, ◌⊎◌, List, [], ◌∷◌, ◌++◌, length, get_or, set, Some, None, All, sym, refl, ap, ◌∙◌, subst, inl, inr, ⊎_elim, arith, length-set, append-nil, eq-eqb, ne_eqb, if◌then◌else◌, get_or-set_other, get_or-set_same}
+use Rattle.std.proofs.Common.{◌≡◌, ◌≢◌, ℕ, ◌+◌, ◌-◌, ◌<◌, eqb, true, false, List, [], ◌∷◌, ◌++◌, length, get_or, set, Some, None, sym, refl, ap, ◌∙◌, subst, inl, inr, ⊎_elim, arith, length-set, append-nil, eq-eqb, ne_eqb, if◌then◌else◌, get_or-set_other, get_or-set_same}
 use Rattle.std.specs.List.{Contains}
 use mathlib.Core.Option.{some, none, some-injective}
 use mathlib.Core.Logic.{dite}
@@ -7,7 +7,9 @@ use native.Mathlib.Decide.{ℕ_discrete}
 use prog.Atomic.{either}
 use lib.ListN.{get_elem?}
 use lib.Seq.{set-get_or}
-use Rattle.std.proofs.lemmas.List.Elements.{All-append}
+use Rattle.std.proofs.lemmas.List.Elements.{All-push}
+use Rattle.std.proofs.lemmas.Bool.{cases_Bool}
+use Rattle.std.proofs.lemmas.Option.{none-some, same_Some}
 use Rattle.atomic_table.specs.Table.{step, keeps as stays, takes, gives, stepped, rest, Allows}
 use Rattle.atomic_table.proofs.Lists.{set_here, set_else}
 use Rattle.cp_logic.specs.declared.named.Named.{Named}
@@ -22,18 +24,11 @@ use Rattle.cp_yard.specs.declared.item.Item.TheVariants.{OfTurn}
 use Rattle.cp_yard.specs.Views.{Base, Note, Got, GotTurn, MetTurn, Share, SeatView, base_of, shares_of, times, noted, reached_turn, without_turn, with_post}
 use Rattle.cp_yard.specs.Rule.{Homes, IsBookOf, IsLegal, IsTrueNote, Stands, HoldsAll, clauses_at}
 use Rattle.cp_yard.specs.Steps.{tries_turn, ends_turn, posts_entry}
-use Rattle.cp_yard.proofs.Lists.{in_front, in_left, in_last, in_range, held_of-after, held_of-before, posts_of-own, posts_of-other, some_same, none_some}
+use Rattle.cp_yard.proofs.Lists.{in_front, in_left, in_last, in_range, held_of-after, held_of-before, posts_of-own, posts_of-other}
 use Rattle.cp_yard.proofs.Posted.{clauses_at-post, clauses_at-other}
 use Rattle.cp_yard.proofs.Items.{same_item, same_book}
 use Rattle.cp_yard.proofs.Frame.{put, put_else, shares_alive, mine_among, note_grows, others_not_mine, lock_stays, turn_stays, moves}
 use Rattle.cp_yard.proofs.Steps.{M, apart, noted_shares, noted_times, all_noted}
-
-all_one : {A : Type 0} (P : A → Type 0) (x : A) → P x → All P (x ∷ [])
-all_one P x p zero d h = p
-all_one P x p (suc k) d h = absurd (omega arith)
-
-all_snoc : {A : Type 0} (P : A → Type 0) (xs : List A) (x : A) → All P xs → P x → All P (xs ++ x ∷ [])
-all_snoc P xs x h p = All-append P xs (x ∷ []) h (all_one P x p)
 
 abbrev last_or : Post → List Post → Post
 last_or d [] = d
@@ -44,10 +39,6 @@ last_snoc : (h : List Post) (d p : Post) → last_or d (h ++ p ∷ []) ≡ p
 last_snoc [] d p = refl
 last_snoc (x ∷ []) d p = refl
 last_snoc (x ∷ y ∷ ys) d p = last_snoc (y ∷ ys) d p
-
-bool_cases : (b : Bool) → (b ≡ true) ⊎ (b ≡ false)
-bool_cases true = inl refl
-bool_cases false = inr refl
 
 module _ (f : Base) where
   pub turn-allowed : (slots id mark : ℕ) (me : M) → me.0.lives ≡ true → me.0.hand ≡ 0 → mark ≡ me.0.number + 1 → me.0.turn ≡ None → 0 < slots
@@ -73,7 +64,7 @@ module _ (f : Base) where
               own = ok.own;
               made = ok.made;
               shares = noted_shares f s r id v at lives note;
-              turn = λ j e. (word_is, sym (some_same h j e), (λ ne. absurd (ne refl)), (h, in_last note v.own.notes));
+              turn = λ j e. (word_is, sym (same_Some h j e), (λ ne. absurd (ne refl)), (h, in_last note v.own.notes));
               held = λ y k e. let o = ok.held y k e in let a = o.0 in let ne : y ≢ 0 = (λ q. omega arith) in
                   (o.0, word y ne ∙ o.1, o.2, (λ _. home y ne ∙ o.3 (λ q. omega arith)), (o.4.0, in_left (Got y o.4.0) v.own.notes (note ∷ []) o.4.1));
             }
@@ -133,7 +124,7 @@ module _ (f : Base) where
               own = ok.own;
               made = ok.made;
               shares = ok.shares;
-              turn = λ j e. absurd (none_some j e);
+              turn = λ j e. absurd (none-some j e);
               held = λ y k e. let o = ok.held y k e in let a = o.0 in let ne : y ≢ 0 = (λ q. omega arith) in (o.0, word y ne ∙ o.1, o.2, (λ _. home y ne ∙ o.3 (λ q. omega arith)), o.4);
             }
             (λ _. refl) r.true_notes (λ _ _. (refl, refl))
@@ -156,7 +147,7 @@ module _ (f : Base) where
       let legal' : IsLegal f h' = subst (λ (z : Base × List Post). IsLegal z.0 (z.1 ++ p ∷ [])) (λ i. (ok.base i, same_h i)) legal in
       let calm : (y : ℕ) → get_or s.words y 0 ≢ id + 1 → clauses_at f h' y ≡ clauses_at f r.posts y = λ y ne. ⊎_elim
       (λ (e : contains (variables_of p.entry) y ≡ true). let c = covers y e in absurd (ne (ok.held y c.0 c.1).1))
-      (λ (e : contains (variables_of p.entry) y ≡ false). clauses_at-other f r.posts p r.legal legal' y e) (bool_cases (contains (variables_of p.entry) y)) in
+      (λ (e : contains (variables_of p.entry) y ≡ false). clauses_at-other f r.posts p r.legal legal' y e) (cases_Bool (contains (variables_of p.entry) y)) in
       let mine = ok.shares v.own (mine_among v lives) in
       let P : Share → Type 0 = λ z. (z.posts ≡ posts_of h' z.number) × (z.notes ≡ r.notes z.number) in
       let own : P w.own = (
@@ -167,7 +158,7 @@ module _ (f : Base) where
         gives,
         tt,
         subst (λ (cs : List (ℕ × Item)). Stands f (stepped s 0 0 id cs w gives)) (sym carried)
-            (moves f s r id v w at lives lives 0 0 homes' h' r.notes (length-set s.homes 0 (some it)) legal' (all_snoc (λ q. q.worker < length s.views) r.posts p r.workers (let a = in_range s.views id v at in omega arith))
+            (moves f s r id v w at lives lives 0 0 homes' h' r.notes (length-set s.homes 0 (some it)) legal' (All-push (λ q. q.worker < length s.views) r.posts p r.workers (let a = in_range s.views id v at in omega arith))
             record {
               base = ok.base;
               number = ok.number;
@@ -176,7 +167,7 @@ module _ (f : Base) where
               shares = λ k a. ⊎_elim (λ (e : k ≡ w.own). subst P (sym e) own)
                   (λ (b : Contains v.others k). let o = ok.shares k (subst (λ (zs : List Share). Contains zs k) (sym (shares_alive v lives)) (in_later k v.own v.others b)) in
                   (o.0 ∙ sym (posts_of-other r.posts p k.number (λ e. others_not_mine f s r id v at lives k b (sym e ∙ by))), o.1)) (in_front k w.own v.others (subst (λ (zs : List Share). Contains zs k) (shares_alive w lives) a));
-              turn = λ j e. absurd (none_some j e);
+              turn = λ j e. absurd (none-some j e);
               held = λ y k e. let m = held_of-before p.entry y v.held k e in let o = ok.held y m.0 m.1 in let a = o.0 in let ne : y ≢ 0 = (λ q. omega arith) in
                   (o.0, word y ne ∙ o.1, m.2 ∙ (ap (λ (l : List Named). after l y p.entry) o.2 ∙ sym (clauses_at-post f r.posts p r.legal legal' y)), (λ _. home y ne ∙ o.3 (λ q. omega arith)), o.4);
             }
@@ -190,7 +181,7 @@ module _ (f : Base) where
           ap rest carried,
           λ b₁ e. let same : b₁ ≡ b = same_book b₁ b (same_item me.1 0 0 (OfTurn b₁) (OfTurn b) [] [] e carried) in
               let after_it : h' ≡ b₁.posts = ap (λ z. z ++ p ∷ []) (sym same_h) ∙ (sym is_book.2 ∙ ap (λ (z : BookView). z.posts) (sym same)) in (
-                (λ h₁ q turn₁ posts. let a : h₁ ≡ h₀ = some_same h₁ h₀ (sym turn₁ ∙ turn) in
+                (λ h₁ q turn₁ posts. let a : h₁ ≡ h₀ = same_Some h₁ h₀ (sym turn₁ ∙ turn) in
                     let both : h₁ ++ q ∷ [] ≡ h₀ ++ p ∷ [] = sym posts ∙ (ap (λ (z : BookView). z.posts) same ∙ is_book.2) in
                     let c : q ≡ p = sym (last_snoc h₁ p q) ∙ (ap (last_or p) both ∙ last_snoc h₀ p p) in
                     sym (λ i. with_post (length (a i)) (c i) v)),

@@ -1,5 +1,5 @@
 -- What is true of a yard between any two steps: there is one journal, and its words, slots and seats stand for it.
-use Rattle.std.specs.Prelude.{◌≡◌, ◌≢◌, ◌⊎◌, ℕ, ◌+◌, ◌^◌, ◌<◌, ◌≤◌, true, Some, None, List, [], ◌++◌, length, slice_index, IsTrue}
+use Rattle.std.specs.Prelude.{◌≡◌, ◌≢◌, ◌⊎◌, ℕ, ◌+◌, ◌^◌, ◌<◌, ◌≤◌, true, Some, None, List, [], ◌++◌, length, slice_index, sum_by, IsTrue}
 use Rattle.std.specs.List.{All, Contains}
 use mathlib.Core.Option.{some}
 use mathlib.Core.Option as maybe
@@ -14,7 +14,7 @@ use Rattle.cp_book.specs.Views.{BookView}
 use Rattle.cp_occ.specs.Cells.{CellView}
 use Rattle.cp_yard.specs.declared.item.Item.{Item}
 use Rattle.cp_yard.specs.declared.item.Item.TheVariants.{OfVariable, OfTurn, Nothing}
-use Rattle.cp_yard.specs.Views.{Base, Note, Got, GotTurn, Met, MetTurn, Lock, Share, SeatView, held_of, shares_of, all_shares, times, total, once_below}
+use Rattle.cp_yard.specs.Views.{Base, Note, Got, GotTurn, Met, MetTurn, Lock, Share, SeatView, held_of, shares_of, all_shares, times, once_below}
 
 -- the clauses of the variable after the posts
 abbrev pub clauses_at : Base → List Post → ℕ → List Named
@@ -108,7 +108,7 @@ pub record Stands (f : Base) (s : State Item SeatView) : Type 0 where
   pub workers : All (λ p. p.worker < length s.views) posts
   pub seats : (i : ℕ) (v : SeatView) → get_elem? s.views i ≡ some v → v.lives ≡ true → Knows f posts notes s.words s.homes (length s.views) i v
   -- each number of a seat that was made is in one share of a living seat
-  pub numbers : (w : ℕ) → total (λ v. times w (shares_of v)) s.views ≡ once_below w (length s.views)
+  pub numbers : (w : ℕ) → sum_by (λ v. times w (shares_of v)) s.views ≡ once_below w (length s.views)
   pub true_notes : (w : ℕ) (n : Note) → Contains (notes w) n → IsTrueNote f posts notes w n
   pub unused : (w : ℕ) → length s.views ≤ w → notes w ≡ []
   pub turn : IsTurnKept f posts s.words s.homes s.views

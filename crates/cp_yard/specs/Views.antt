@@ -82,10 +82,6 @@ abbrev pub times : ℕ → List Share → ℕ
 times w [] = 0
 times w (k ∷ ks) = (if k.number == w then 1 else 0) + times w ks
 
-abbrev pub total : {A : Type 0} → (A → ℕ) → List A → ℕ
-total f [] = 0
-total f (x ∷ xs) = f x + total f xs
-
 -- 1 for a number below n, and else 0
 abbrev pub once_below : ℕ → ℕ → ℕ
 once_below w n = if ltb w n then 1 else 0

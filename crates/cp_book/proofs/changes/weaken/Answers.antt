@@ -1,6 +1,7 @@
 use Rattle.std.proofs.Common.{◌≡◌, ℕ, true, List, [], ◌∷◌, ◌++◌, map, Option, Some, None, sym, ◌∙◌, ap, subst}
 use Rattle.std.specs.Option.{option_map}
 use Rattle.std.proofs.lemmas.List.{map-append}
+use Rattle.std.proofs.lemmas.Option.{none-some, same_Some}
 use Rattle.cp_logic.specs.declared.named.Named.{Named}
 use Rattle.cp_logic.specs.Clauses.{contains}
 use Rattle.cp_logic.specs.Assignments.{Pair}
@@ -11,17 +12,11 @@ use Rattle.cp_book.proofs.changes.weaken.Goals as goal
 
 -- the clause that was found is the one that is named
 found_is : (o : Option Named) (c : Named) (clause : List ℕ) → Some clause ≡ option_map (λ (k : Named). k.clause) o → o ≡ Some c → clause ≡ c.clause
-found_is o c clause e f = inside clause c.clause (e ∙ ap (option_map (λ (k : Named). k.clause)) f)
-  where
-    inside : (a b : List ℕ) → Some a ≡ Some b → a ≡ b
-    inside a b h = cc
+found_is o c clause e f = same_Some clause c.clause (e ∙ ap (option_map (λ (k : Named). k.clause)) f)
 
 -- and it was found
 found_none : (o : Option Named) (c : Named) → None ≡ option_map (λ (k : Named). k.clause) o → o ≡ Some c → ⊥
-found_none o c e f = no c.clause (e ∙ ap (option_map (λ (k : Named). k.clause)) f)
-  where
-    no : (a : List ℕ) → None ≡ Some a → ⊥
-    no a h = cc
+found_none o c e f = none-some c.clause (e ∙ ap (option_map (λ (k : Named). k.clause)) f)
 
 pub new-requires : goal.new-requires
 new-requires c =

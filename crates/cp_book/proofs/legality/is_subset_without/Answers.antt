@@ -1,7 +1,8 @@
 use Rattle.std.proofs.Common.{sym, ◌∙◌}
 use Rattle.std.specs.Prelude.{◌==◌}
 use Rattle.std.proofs.lemmas.Bool.{eqb-true, eqb-false, not-true, not-false}
-use Rattle.cp_book.proofs.Subsets.{passing-same, passing-found, passing-passed, passing-none, no_items}
+use Rattle.std.proofs.lemmas.List.{nil_from_length}
+use Rattle.cp_book.proofs.Subsets.{passing-same, passing-found, passing-passed, passing-none}
 use Rattle.cp_book.proofs.legality.is_subset_without.Goals as goal
 use Rattle.cp_book.proofs.legality.is_subset_without.Goals.{then-ne+in-Some, else-ne}
 
@@ -15,7 +16,7 @@ pub returns-in_default-2 : goal.returns-in_default-2
 returns-in_default-2 c =
     passing-none c.args.smaller.now c.args.lit c.args.larger.now c.loop-held.held-index c.loop-held.rest.now c.held-item.result c.requires.smaller c.loop-held.invariant c.loop-held-test.true c.held-item.is
     (eqb-false c.held-item.result c.args.lit (not-true (c.held-item.result == c.args.lit) (sym c.ne.ensures ∙ c.if-ne.true)))
-    (sym c.literals_from-from.ensures ∙ no_items c.literals_from-from.result.now (rw c.in_default.is at c.split_first.ensures.cases))
+    (sym c.literals_from-from.ensures ∙ nil_from_length c.literals_from-from.result.now (rw c.in_default.is at c.split_first.ensures.cases))
 
 pub loop-held-preserved : goal.loop-held-preserved
 loop-held-preserved c =

@@ -2,10 +2,11 @@ use Rattle.std.proofs.Common.{rules, ◌≡◌, ℕ, ◌<◌, suc, length, List,
 use Rattle.std.specs.List.{Contains}
 use Rattle.std.proofs.lemmas.List.{map-append}
 use Rattle.std.proofs.lemmas.List.Elements.{Contains-get_or}
+use Rattle.std.proofs.lemmas.List.{take_more}
 use Rattle.cp_logic.proofs.Members.{in_contains}
 use Rattle.cp_occ.specs.Cells.{CellView}
 use Rattle.cp_yard.specs.Views.{Met, SeatView, held_of, noted, with_lock}
-use Rattle.cp_hood.proofs.Rows.{held_of-locks, next-free, with_locks-snoc, take-next, split-next}
+use Rattle.cp_hood.proofs.Rows.{held_of-locks, next-free, with_locks-snoc, split-next}
 use Rattle.cp_hood.proofs.locking.lock_row.Goals as goal
 
 pub try_lock-requires-clause-free : goal.try_lock-requires-clause-free
@@ -32,7 +33,7 @@ loop-var-preserved c = let r = c.loop-var.invariant.row in let vars = c.args.var
       room = search rules;
       row = record {
         got = r.got ++ cell ∷ [];
-        variables = map-append (λ (d : CellView). d.variable) r.got (cell ∷ []) ∙ ((λ j. r.variables j ++ var j ∷ []) ∙ sym (take-next vars i near));
+        variables = map-append (λ (d : CellView). d.variable) r.got (cell ∷ []) ∙ ((λ j. r.variables j ++ var j ∷ []) ∙ sym (take_more vars i 0 near));
         cells = c.push_reserved.ensures.items ∙ (ap (λ (ds : List CellView). ds ++ cell ∷ []) r.cells ∙ append_assoc c.args.cells.now.items r.got (cell ∷ []));
         seat = got.1 ∙ ((λ j. with_lock (sym var j) cell.clauses (r.seat j)) ∙ sym (with_locks-snoc r.got cell c.args.seat.now.view));
       };
