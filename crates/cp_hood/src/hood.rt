@@ -1,13 +1,14 @@
 //! A hood, whose cells a seat has under their locks.
-ghost use Rattle.std.specs.Prelude.{◌≡◌, OnOk, IfOk};
+ghost use Rattle.std.specs.Prelude.{◌≡◌, ℕ, None, OnOk, IfOk};
 ghost use Rattle.cp_logic.specs.declared.settings.Rules.{Rules};
+ghost use Rattle.cp_logic.specs.Legality.{first_in};
 ghost use Rattle.cp_logic.specs.Views.{entry_of};
 ghost use Rattle.cp_occ.specs.Changes.{places_of, HasRoom, IsChange};
 ghost use Rattle.cp_yard.specs.Views.{SeatView};
 ghost use Rattle.cp_hood.specs.Hoods.{centre_clauses, HoldsJust, IsHood, IsLegalAt};
 ghost use Rattle.cp_hood.specs.Commits.{IsHoodAfter, IsSameHood};
 
-use cp_logic::Entry;
+use cp_logic::{Entry, Rules};
 use cp_occ::{Cell, Cells, Prepared};
 use std::alloc::{AllocError, Global};
 use std::marker::Model;
@@ -46,6 +47,14 @@ impl Hood {
             Some(cell) => cell,
             None => unreachable!(),
         }
+    }
+
+    /// Keeps at the cell of the centre that a search of it by these rules gives nothing, until one of its clauses goes or a new one comes.
+    pub fn settle(&mut self, rules: &Rules)
+        requires { (next : ℕ) × (first_in (centre_clauses self.old) rules.now next self.old.centre ≡ None) }
+        ensures { self.new ≡ self.old }
+    {
+        self.cells.settle(self.at, rules);
     }
 
     /// Takes all memory that the cells need for the entry, which fits at the centre: places of its new clauses, and room in the

@@ -3,3 +3,4 @@ pub mod Having
 pub mod Entered
 pub mod Changed
 pub mod Posted
+mod Searches

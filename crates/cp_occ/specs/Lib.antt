@@ -1,3 +1,4 @@
 pub mod Cells
 pub mod Lending
 pub mod Changes
+pub mod Silence

@@ -1,31 +1,38 @@
 //! Cells: the clauses of one variable.
-ghost use Rattle.std.specs.Prelude.{◌≡◌, ◌≢◌, ◌≤◌, ◌<◌, ◌+◌, ◌==◌, ℕ, [], ◌∷◌, ◌++◌, length, slice_get, slice_index_or, IsTrue, OnOk, IfOk, IfSome, IfNone};
+ghost use Rattle.std.specs.Prelude.{◌≡◌, ◌≢◌, ◌≤◌, ◌<◌, ◌+◌, ◌==◌, ℕ, [], ◌∷◌, ◌++◌, length, slice_get, slice_index_or, IsTrue, OnOk, IfOk, IfSome, IfNone, None};
 ghost use Rattle.std.specs.List.{All, list_any};
 ghost use Rattle.std.specs.Option.{option_map};
 ghost use Rattle.cp_logic.specs.Literals.{positive, negative};
 ghost use Rattle.cp_logic.specs.Clauses.{has_variable, is_tautology, IsAscending};
 ghost use Rattle.cp_logic.specs.Formulas.{numbers_of, find_number, without_number};
-ghost use Rattle.cp_logic.specs.Legality.{clauses_with};
+ghost use Rattle.cp_logic.specs.Legality.{clauses_with, first_in};
 ghost use Rattle.cp_logic.specs.Items.{named_item};
 ghost use Rattle.cp_occ.specs.Cells.{from_number};
+ghost use Rattle.cp_occ.specs.Silence.{GivesNothing};
 
 use crate::iter::{CellIter, LiteralIter};
 use crate::occurrence::Occurrence;
 use crate::place::Place;
-use cp_logic::{Clause, Lit};
+use crate::silence::Searched;
+use cp_logic::{Clause, Lit, Rules};
 use std::alloc::{AllocError, Global};
 use std::marker::Model;
 
 /// A variable and the clauses that have it, with their numbers, by ascending number.
+///
+/// What applies at a variable is decided by its clauses. So a cell keeps by which rules a search of it gave nothing, until a clause comes
+/// or goes, and whoever has the cell next needn't search it again.
 #[derive(Drop)]
 pub struct Cell {
     var: u32,
     occurrences: Vec<Occurrence>,
+    silent: Option<Searched>,
 }
 
 impl Model for Cell {
     ghost use Rattle.std.specs.Prelude.{◌-◌, vec_len, vec_capacity};
     ghost use Rattle.cp_occ.specs.Cells.{CellView, IsListed};
+    ghost use Rattle.cp_occ.specs.Silence.{IsSilent};
 
     ghost Value = { CellView };
 
@@ -35,7 +42,7 @@ impl Model for Cell {
       spare = vec_capacity c.occurrences - vec_len c.occurrences;
     } };
 
-    ghost invariant = { λ c. IsListed c.var c.occurrences.items };
+    ghost invariant = { λ c. IsListed c.var c.occurrences.items × IsSilent c.var c.occurrences.items c.silent };
 }
 
 impl Cell {
@@ -51,6 +58,7 @@ impl Cell {
         Cell {
             var,
             occurrences: Vec::new(alloc),
+            silent: None,
         }
     }
 
@@ -62,7 +70,11 @@ impl Cell {
         ensures clauses { IfOk result (λ c. c.clauses ≡ []) }
     {
         let occurrences = Vec::with_capacity(alloc, n)?;
-        Ok(Cell { var, occurrences })
+        Ok(Cell {
+            var,
+            occurrences,
+            silent: None,
+        })
     }
 
     /// The variable. It is 1 to 2,000,000, the numbers of the clauses rise, and each clause has the variable.
@@ -138,6 +150,24 @@ impl Cell {
         false
     }
 
+    /// Whether the cell keeps that a search by rules of this choice and bound gives nothing. `false` says nothing of a search.
+    pub fn is_silent(&self, rules: &Rules) -> bool
+        ensures { IsTrue result → GivesNothing self.now.variable self.now.clauses rules.now }
+    {
+        match self.silent {
+            Some(searched) => searched.is_by(rules),
+            None => false,
+        }
+    }
+
+    /// Keeps that a search by these rules gives nothing, until a clause comes or goes.
+    pub fn settle(&mut self, rules: &Rules)
+        requires { (next : ℕ) × (first_in self.old.clauses rules.now next self.old.variable ≡ None) }
+        ensures { self.new ≡ self.old }
+    {
+        self.silent = Some(Searched::by(rules));
+    }
+
     /// The clause at the position from 0 on, with its number, or `None` past the last one.
     pub fn get(&self, i: usize) -> Option<(u64, &Clause)>
         ensures { option_map named_item result ≡ slice_get self.now.clauses i }
@@ -166,6 +196,7 @@ impl Cell {
         ensures spare { self.new.spare + 1 ≡ self.old.spare }
     {
         let _ = place.clause().lits();
+        self.silent = None;
         self.occurrences
             .push_reserved(Occurrence::new(number, place));
     }
@@ -178,6 +209,7 @@ impl Cell {
         ensures spare { self.old.spare ≤ self.new.spare }
     {
         let at = position(self.occurrences.as_slice(), number)?;
+        self.silent = None;
         Some(self.occurrences.remove(at).into_place())
     }
 }

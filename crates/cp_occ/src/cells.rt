@@ -1,15 +1,16 @@
 //! Lists of cells: that of the variables of a formula.
-ghost use Rattle.std.specs.Prelude.{◌≡◌, ◌+◌, ◌<◌, ◌≤◌, ◌==◌, ℕ, [], ◌∷◌, ◌++◌, length, slice_get, ◌↔◌, IsSome, OnOk, OnErr, IfOk, map};
+ghost use Rattle.std.specs.Prelude.{◌≡◌, ◌+◌, ◌<◌, ◌≤◌, ◌==◌, ℕ, [], ◌∷◌, ◌++◌, length, slice_get, ◌↔◌, IsSome, OnOk, OnErr, IfOk, map, Some, None};
 ghost use Rattle.std.specs.List.{range_with_len};
 ghost use Rattle.std.specs.Option.{option_copied, option_map, option_to_list};
 ghost use Rattle.std.specs.Borrow.{sem};
 ghost use Rattle.std.specs.Slice.Iter.{iter_rest};
 ghost use Rattle.cp_logic.specs.Formulas.{occurrences};
-ghost use Rattle.cp_occ.specs.Cells.{variables_of, lists_of};
+ghost use Rattle.cp_logic.specs.Legality.{first_in};
+ghost use Rattle.cp_occ.specs.Cells.{CellView, variables_of, lists_of};
 
 use crate::cell::Cell;
 use crate::filling::{counts, empty_cells, enter};
-use cp_logic::Formula;
+use cp_logic::{Formula, Rules};
 use std::alloc::{AllocError, Global};
 use std::marker::Model;
 use std::slice;
@@ -83,6 +84,16 @@ impl Cells {
         ensures value { option_map (λ c. c.now) result ≡ slice_get self.old.items i }
     {
         self.cells.get_mut(i)
+    }
+
+    /// Keeps at the cell at the position from 0 on, if there is one, that a search of it by these rules gives nothing.
+    pub fn settle(&mut self, i: usize, rules: &Rules)
+        requires { (cell : CellView) → slice_get self.old.items i ≡ Some cell → (next : ℕ) × (first_in cell.clauses rules.now next cell.variable ≡ None) }
+        ensures { self.new ≡ self.old }
+    {
+        if let Some(cell) = self.cells.get_mut(i) {
+            cell.settle(rules);
+        }
     }
 
     /// The cells in their order.

@@ -12,6 +12,7 @@ mod iter;
 mod lent;
 mod occurrence;
 mod place;
+mod silence;
 #[cfg(test)]
 mod tests;
 mod variables;

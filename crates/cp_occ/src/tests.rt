@@ -1,6 +1,6 @@
 //! Calls with ample memory. What an entry does to the cells is seen in the runs above this crate.
 use crate::{Cell, Cells, Place};
-use cp_logic::{Clause, Formula, Lit};
+use cp_logic::{Choice, Clause, Formula, Lit, Rules};
 use std::test::Fail;
 
 #[test]
@@ -29,6 +29,37 @@ fn cells_are_gone_over_by_literal(rt: HostRuntime) -> Result<(), Fail> {
     assert_eq!(rt; cell.get(0).map(|found| found.0), Some(5));
     assert!(rt; cell.remove(5).is_some());
     assert!(rt; cell.is_empty());
+    Ok(())
+}
+
+#[test]
+fn cells_are_silent_until_a_clause_comes(rt: HostRuntime) -> Result<(), Fail> {
+    let choice = Choice {
+        t: true,
+        s: true,
+        x: true,
+        b: true,
+        e: true,
+    };
+    let rules = Rules {
+        choice,
+        bound: 0,
+        budget: 0,
+    };
+    let wider = Rules {
+        choice,
+        bound: 1,
+        budget: 0,
+    };
+    let pair = [Lit::new(1, true), Lit::new(2, false)];
+    let clause = Clause::from_lits(rt.alloc(), pair.as_slice())?;
+    let mut cell = Cell::new(rt.alloc(), 2);
+    assert!(rt; !cell.is_silent(&rules));
+    cell.settle(&rules);
+    cell.reserve(1)?;
+    assert!(rt; cell.is_silent(&rules) && !cell.is_silent(&wider));
+    cell.insert(5, Place::new(rt.alloc(), clause)?);
+    assert!(rt; !cell.is_silent(&rules));
     Ok(())
 }
 

@@ -7,3 +7,4 @@ mod Rounds
 mod Touching
 mod Turning
 mod UnderWay
+mod Beginning

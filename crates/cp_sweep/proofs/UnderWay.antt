@@ -111,9 +111,9 @@ numbers-left f rules posts h legal = subst (λ (ps : List Post). (folded f ps).f
         subst (λ (s : State). s.formula.next ≤ number_limit) (sym (ap (folded f) r.2 ∙ folded-push f (take n posts) r.0)) (legal n r.0 r.1).in_range
 
 pub under_way-start : (f : Formula) (rules : Rules) (before : List Post) (touched : List Bool) → f.next ≤ number_limit → IsLegalJournal f rules before
-    → f.variables < length touched → ((x : ℕ) → is_marked touched x ≡ true → (1 ≤ x) × (x ≤ f.variables)) → ((x : ℕ) → 1 ≤ x → x ≤ f.variables → is_marked touched x ≡ true)
+    → f.variables < length touched → ((x : ℕ) → is_marked touched x ≡ true → (1 ≤ x) × (x ≤ f.variables)) → ((x : ℕ) → is_marked touched x ≡ false → 1 ≤ x → x ≤ f.variables → first (folded f before).formula rules x ≡ None)
     → IsUnderWay f rules before (record { posts = before; mark = 1; touched = touched })
-under_way-start f rules before touched n legal room within all = record {
+under_way-start f rules before touched n legal room within silent = record {
   legal = legal;
   leads = leads-start f rules before;
   low = omega arith;
@@ -121,7 +121,7 @@ under_way-start f rules before touched n legal room within all = record {
   numbers = numbers-left f rules before n legal;
   room = room;
   within = within;
-  silent = λ x u l h. absurd (false≢true (sym u ∙ all x l h));
+  silent = silent;
 }
 
 module _ (f : Formula) (rules : Rules) (v : IsFormula f) (before : List Post) (c : Cursor) (w : IsUnderWay f rules before c) where

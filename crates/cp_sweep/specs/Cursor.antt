@@ -1,5 +1,5 @@
 -- Where a sweep stands, and what its next search does. A variable is touched where the last search at it gave an entry, or where its
--- clauses changed since then; at first each is. The mark is the variable of the last search, 1 at first.
+-- clauses changed since then; at first each is whose cell isn't known to be silent. The mark is the variable of the last search, 1 at first.
 use Rattle.std.specs.Prelude.{ℕ, ◌+◌, nat_le, Bool, false, Option, None, Some, List, [], ◌∷◌, ◌++◌, map, length, slice_set, if◌then◌else◌}
 use Rattle.std.specs.List.{flat_map}
 use Rattle.cp_logic.specs.declared.named.Named.{Named}

@@ -2,8 +2,8 @@
 //!
 //! A mark goes round the variables from 1 up and begins again after the last. Where the search gives an entry, the book takes it
 //! and the cells follow, and the mark stays for a next search; where it gives nothing, the mark goes on. What applies at a variable
-//! is decided by its clauses, so the mark passes over each variable whose clauses stand as the last search there left them, and the
-//! sweep ends once that is so of all. A round takes the time of its searches: to search each variable again until a whole round
+//! is decided by its clauses, so the mark passes over each variable whose clauses stand as the last search there left them, be it one
+//! before the sweep of which the cell tells, and the sweep ends once that is so of all. A round takes the time of its searches: to search each variable again until a whole round
 //! gives nothing would take that of all clauses for each few entries. While the mark stays, each search goes on behind what the last
 //! one found there.
 
@@ -23,7 +23,7 @@ ghost use Rattle.cp_sweep.specs.Marks.{is_marked, IsFirstAround};
 ghost use Rattle.cp_sweep.specs.Cursor.{next_turn, left_at, turn_for};
 ghost use Rattle.cp_sweep.specs.Swept.{IsSwept, IsSweptAfter, IsUnspent};
 ghost use Rattle.cp_occ.specs.Changes.{AreCellsOf};
-ghost use Rattle.cp_sweep.specs.Sweeping.{IsReady, cursor_of};
+ghost use Rattle.cp_sweep.specs.Sweeping.{IsReady, cursor_of, IsSilentAt, AreTouched};
 
 use crate::marks::Marks;
 use crate::touch::touch;
@@ -86,7 +86,7 @@ pub fn sweep(alloc: Global, ground: Ground) -> Result<Swept, AllocError>
 {
     let Ground { book, cells } = ground;
     book.is_legal();
-    let touched = all_touched(alloc, book.clauses().vars())?;
+    let touched = first_touched(alloc, book.clauses().vars(), &cells, book.rules())?;
     let mut state = Sweeping {
         book,
         cells,
@@ -105,17 +105,33 @@ pub fn sweep(alloc: Global, ground: Ground) -> Result<Swept, AllocError>
     Ok(closed(state.book, stopped))
 }
 
-// All variables from 1 to `vars`.
-fn all_touched(alloc: Global, vars: u32) -> Result<Marks, AllocError>
+// The variables from 1 to `vars` but those whose cells are known to be silent.
+fn first_touched(
+    alloc: Global,
+    vars: u32,
+    cells: &Cells,
+    rules: &Rules,
+) -> Result<Marks, AllocError>
     requires { vars ≤ 2000000 }
-    ensures room { IfOk result (λ m. vars < length m) }
-    ensures touched { IfOk result (λ m. (x : ℕ) → is_marked m x ≡ nat_lt 0 x && nat_lt x (vars + 1)) }
+    ensures { IfOk result (λ m. AreTouched cells.now.items rules.now vars vars m) }
 {
     let mut touched = Marks::new(alloc, vars)?;
     for index in 0..vars {
-        touched.insert(index as usize + 1);
+        if !is_silent_at(cells, index as usize, rules) {
+            touched.insert(index as usize + 1);
+        }
     }
     Ok(touched)
+}
+
+// Whether the cell at the index is known to be silent.
+fn is_silent_at(cells: &Cells, index: usize, rules: &Rules) -> bool
+    ensures { IsTrue result → IsSilentAt cells.now.items rules.now index }
+{
+    match cells.get(index) {
+        Some(cell) => cell.is_silent(rules),
+        None => false,
+    }
 }
 
 // The first touched variable from the mark on, where 1 comes after the last.
@@ -176,6 +192,7 @@ fn turn(alloc: Global, state: &mut Sweeping) -> Result<Option<Stop>, AllocError>
     match found {
         None => {
             state.touched.remove(state.mark as usize);
+            settle_at(&mut state.cells, &state.book, state.mark);
             Ok(None)
         }
         Some(entry) => post_found(alloc, state, entry),
@@ -201,6 +218,18 @@ fn search_at(
         unreachable!()
     };
     search(alloc, cell, state.book.rules(), state.book.next(), reached)
+}
+
+// The variable's cell keeps that a search of it gives nothing.
+fn settle_at(cells: &mut Cells, book: &Book, var: u32)
+    requires cells { AreCellsOf (current book.now) cells.old.items }
+    requires filled { IsFalse (has_empty (current book.now).clauses) }
+    requires low { 1 ≤ var }
+    requires high { var ≤ (current book.now).variables }
+    requires none { first (current book.now) book.now.rules var ≡ None }
+    ensures { cells.new ≡ cells.old }
+{
+    cells.settle(var as usize - 1, book.rules());
 }
 
 // Lets the cells follow the entry that the search at the mark gave, and posts it, unless its new clause has no number. All

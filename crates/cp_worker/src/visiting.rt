@@ -117,14 +117,38 @@ fn visit_under<G: Gate>(
     let mut hood = hood;
     let var = hood.centre().var();
     gate.at(seat.number(), GateEvent::HoodHeld { var });
-    let answer = commit_all(alloc, yard, seat, &mut hood, round, &opts.rules);
+    let answer = commit_unless_silent(alloc, yard, seat, &mut hood, round, &opts.rules);
     release(yard, seat, hood);
     gate.at(seat.number(), GateEvent::Released { var });
     answer
 }
 
+// Posts what the searches at the centre give. Where its cell keeps that a search gives nothing there is none.
+fn commit_unless_silent(
+    alloc: Global,
+    yard: &Yard,
+    seat: &mut Seat,
+    hood: &mut Hood,
+    round: u32,
+    rules: &Rules,
+) -> Result<AtAnswer, AllocError>
+    requires table { seat.old.table ≡ yard.now.table }
+    requires base { seat.old.view.base ≡ yard.now.base }
+    requires rules { rules.now ≡ yard.now.base.rules }
+    requires holds { HoldsJust seat.old.view hood.old.cells }
+    ensures table { seat.new.table ≡ seat.old.table }
+    ensures visit { (noted : List Note) × (posted : List (ℕ × Post)) × GoesOn seat.old.view seat.new.view noted posted × IfOk result (AreCommits seat.old.view.base seat.old.view.number hood.old.centre round (centre_clauses hood.old) noted posted) }
+    ensures holds { HoldsJust seat.new.view hood.new.cells }
+{
+    if hood.centre().is_silent(rules) {
+        let commits = Positions::new(alloc);
+        return Ok(AtAnswer::Settled { commits });
+    }
+    commit_all(alloc, yard, seat, hood, round, rules)
+}
+
 // Posts what the search at the centre gives, until it gives nothing or an entry is refused. Each search goes on behind what the last
-// one found.
+// one found, and where the last one gave nothing the centre's cell keeps that.
 fn commit_all(
     alloc: Global,
     yard: &Yard,
@@ -149,6 +173,7 @@ fn commit_all(
             return refused(answer, commits);
         }
     }
+    hood.settle(rules);
     Ok(AtAnswer::Settled { commits })
 }
 

@@ -1,6 +1,4 @@
-use Rattle.std.proofs.Common.{◌≡◌, ℕ, ◌+◌, ◌<◌, Some, None, refl, sym, ◌∙◌, ap, subst, arith}
-use Rattle.std.specs.Prelude.{nat_lt}
-use Rattle.std.proofs.lemmas.Bool.{and_parts, and_from, ltb-true, lt-ltb}
+use Rattle.std.proofs.Common.{◌≡◌, ℕ, ◌-◌, Some, None, refl, sym, ◌∙◌, ap, subst, arith}
 use Rattle.cp_logic.specs.declared.settings.Rules.{Rules}
 use Rattle.cp_logic.specs.Formulas.{Formula, occurrences}
 use Rattle.cp_logic.specs.Journals.{folded, IsLegalJournal}
@@ -10,7 +8,8 @@ use Rattle.cp_occ.specs.Changes.{AreCellsOf}
 use Rattle.cp_find.specs.Past.{IsPast}
 use Rattle.cp_sweep.specs.Marks.{is_marked, IsFirstAround}
 use Rattle.cp_sweep.specs.Cursor.{left_at, moved}
-use Rattle.cp_sweep.specs.Sweeping.{cursor_of}
+use Rattle.cp_sweep.specs.Sweeping.{cursor_of, IsSilentAt}
+use Rattle.cp_sweep.proofs.CellReading.{silent-there}
 use Rattle.cp_sweep.proofs.UnderWay.{under_way-start, under_way-moved, under_way-next, under_way-stop, under_way-end, searches-fewer}
 use Rattle.cp_sweep.proofs.Turning.{turn-is, swept-closed, swept-unspent, stop_there, stop-named}
 use Rattle.cp_sweep.proofs.turns.sweep.Goals as goal
@@ -20,14 +19,12 @@ searches-init c =
     let b = c.args.ground.book in let f = b.first in let marks = c.in_ok-touched.touched in
     let same : (current b).variables ≡ f.variables = (journal-formula f b.rules b.posts c.is_legal.ensures.first c.is_legal.ensures.journal).1 in
     let many : c.vars.result ≡ f.variables = c.vars.ensures.value ∙ ap (λ (g : Formula). g.variables) c.clauses.ensures ∙ same in
-    let all = c.in_ok-touched.ensures.touched in
+    let all = c.in_ok-touched.ensures in
     record {
-      under_way = under_way-start f b.rules b.posts marks c.requires.numbers c.is_legal.ensures.journal
-          (omega (arith, c.in_ok-touched.ensures.room, many))
-          (λ x m. let p = and_parts (nat_lt 0 x) (nat_lt x (c.vars.result + 1)) (sym (all x) ∙ m) in
-          let low : 0 < x = ltb-true 0 x p.0 in let high : x < c.vars.result + 1 = ltb-true x (c.vars.result + 1) p.1 in
-          (low, omega (arith, many)))
-          (λ x l h. all x ∙ and_from (nat_lt 0 x) (nat_lt x (c.vars.result + 1)) (lt-ltb 0 x l) (lt-ltb x (c.vars.result + 1) (omega (arith, many))));
+      under_way = under_way-start f b.rules b.posts marks c.requires.numbers c.is_legal.ensures.journal (omega (arith, all.room, many))
+          (λ x m. let p = all.within x m in (p.0, omega (arith, p.1, many)))
+          (λ x u l h. silent-there (current b) c.args.ground.cells.items c.requires.cells x l (omega (arith, h, same)) b.rules
+          (subst (λ (r : Rules). IsSilentAt c.args.ground.cells.items r (x - 1)) c.rules.ensures (all.silent x u l (omega (arith, h, many)))));
       first = refl;
       rules = refl;
       cells = c.requires.cells;

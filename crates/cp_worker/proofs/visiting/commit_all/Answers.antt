@@ -70,6 +70,13 @@ commits-smaller c =
     ∙ ap (option_map entry_of) c.in-Some.is)
     k.3.hood
 
+pub settle-requires : goal.settle-requires
+settle-requires c = (
+  1,
+  found-at c.commits.hood c.centre.result.now c.args.rules.now c.args.rules.now c.in_ok-entry.field-0 c.centre.ensures.variable c.centre.ensures.clauses refl c.in_ok-entry.ensures.found
+      ∙ ap (option_map entry_of) c.in_default.is,
+)
+
 pub returns-in-Err-clause-visit : goal.returns-in-Err-clause-visit
 returns-in-Err-clause-visit c =
     let i = c.commits.invariant in let k = c.in-Err.ensures.post in let e = entry_of c.in-Some.entry in

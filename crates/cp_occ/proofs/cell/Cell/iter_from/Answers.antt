@@ -10,7 +10,7 @@ use Rattle.cp_occ.proofs.cell.Cell.iter_from.Goals as goal
 pub returns : goal.returns
 returns c =
     let all : List Named = c.as_slice-all.result.now in
-    let rising = subst (λ (cs : List Named). IsAscending (numbers_of cs)) (sym c.as_slice-all.ensures.value) c.self.invariant.rising in
+    let rising = subst (λ (cs : List Named). IsAscending (numbers_of cs)) (sym c.as_slice-all.ensures.value) c.self.invariant.0.rising in
     let point = IsPartitionPoint-from_clause (λ (n : Named). ltb n.number c.args.number) all c.partition_point-at.result c.partition_point-at.ensures.partitioned
     (parted-by_number all c.args.number rising) (λ a r q k. search rules) in
     c.split_at.ensures.back ∙ from-point all c.args.number c.partition_point-at.result c.partition_point-at.ensures.bound point

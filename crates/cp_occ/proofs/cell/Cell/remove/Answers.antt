@@ -24,16 +24,16 @@ module _ (c : goal.After-into_place) where
 
 pub invariant_of-self : goal.invariant_of-self
 invariant_of-self c =
-    rw (c.remove.ensures.items, without-at c.self.inside.occurrences.items c.in_ok-at.at c.args.number c.remove.result c.self.invariant.rising (found c).0 ((found c).1 c.remove.result))
-    (IsListed-without c.self.inside.var c.self.inside.occurrences.items c.args.number c.self.invariant)
+    rw (c.remove.ensures.items, without-at c.self.inside.occurrences.items c.in_ok-at.at c.args.number c.remove.result c.self.invariant.0.rising (found c).0 ((found c).1 c.remove.result))
+    (IsListed-without c.self.inside.var c.self.inside.occurrences.items c.args.number c.self.invariant.0, tt)
 
 pub returns-clause-value : goal.returns-clause-value
 returns-clause-value c =
     rw (← c.self.view_is, c.into_place.ensures)
     (ap (λ (n : Named). Some n.clause) c.remove.ensures.value
-    ∙ sym (ap (option_map (λ (n : Named). n.clause)) (find-at c.self.inside.occurrences.items c.in_ok-at.at c.args.number c.remove.result c.self.invariant.rising (found c).0 ((found c).1 c.remove.result))))
+    ∙ sym (ap (option_map (λ (n : Named). n.clause)) (find-at c.self.inside.occurrences.items c.in_ok-at.at c.args.number c.remove.result c.self.invariant.0.rising (found c).0 ((found c).1 c.remove.result))))
 
 pub returns-clause-clauses : goal.returns-clause-clauses
 returns-clause-clauses c =
     rw (← c.self.view_is, c.remove.ensures.items)
-    (without-at c.self.inside.occurrences.items c.in_ok-at.at c.args.number c.remove.result c.self.invariant.rising (found c).0 ((found c).1 c.remove.result))
+    (without-at c.self.inside.occurrences.items c.in_ok-at.at c.args.number c.remove.result c.self.invariant.0.rising (found c).0 ((found c).1 c.remove.result))
