@@ -5,5 +5,4 @@ pub mod Turned
 pub mod Searches
 pub mod Candidates
 pub mod Least
-pub mod Searched
 pub mod Past

@@ -1,6 +1,6 @@
-//! Passes over two clauses at once, which meet the literals of their resolvent in ascending order. Only the first of them builds it.
+//! Passes over two clauses at once, in ascending order. Those for a resolvent meet its literals, and only the first of them builds it.
 ghost use Rattle.std.specs.Prelude.{◌≡◌, ◌<◌, ◌≤◌, length, slice_index_or, IfOk};
-ghost use Rattle.cp_logic.specs.Clauses.{is_tautology, resolvent, IsAscending};
+ghost use Rattle.cp_logic.specs.Clauses.{is_subset, is_tautology, resolvent, IsAscending};
 ghost use Rattle.cp_logic.specs.Legality.{same_literals};
 
 use crate::lits::Lit;
@@ -110,6 +110,31 @@ pub(crate) fn is_merge(clause: &[Lit], left: &[Lit], right: &[Lit], pivot: Lit) 
         }
     }
     k == clause.len()
+}
+
+/// Whether each of the literals is among the others, by one pass over the others.
+pub(crate) fn passes_over(lits: &[Lit], others: &[Lit]) -> bool
+    requires ascending { IsAscending lits.now }
+    requires others_ascending { IsAscending others.now }
+    ensures { result ≡ is_subset lits.now others.now }
+{
+    if lits.len() > others.len() {
+        return false;
+    }
+    let mut found = 0;
+    for other in others {
+        if found == lits.len() {
+            return true;
+        }
+        let code = lits[found].code();
+        if code < other.code() {
+            return false;
+        }
+        if code == other.code() {
+            found += 1;
+        }
+    }
+    found == lits.len()
 }
 
 // The code of the literal at the index, or a number above all codes past the end.

@@ -2,8 +2,8 @@ use Rattle.std.proofs.Common.{◌≡◌, ◌≤◌, ◌+◌, ◌∙◌, ℕ, Lis
 use Rattle.std.proofs.lemmas.Grind.{common_steps}
 use Rattle.cp_logic.specs.Clauses.{is_subset}
 use Rattle.cp_logic.proofs.Merges.{drop-past, subset-longer, subset-stop, subset-both, subset-on}
-use Rattle.cp_logic.proofs.clauses.is_subset.Goals as goal
-use Rattle.cp_logic.proofs.clauses.is_subset.Goals.{then-code-2, else-code-2}
+use Rattle.cp_logic.proofs.passes.passes_over.Goals as goal
+use Rattle.cp_logic.proofs.passes.passes_over.Goals.{then-code-2, else-code-2}
 
 pub returns-then-lits-others : goal.returns-then-lits-others
 returns-then-lits-others c = sym (subset-longer c.args.lits.now c.args.others.now c.requires.ascending c.requires.others_ascending c.if-lits-others.true)

@@ -1,6 +1,6 @@
 use Rattle.std.proofs.Common.{◌≡◌, ◌≤◌, drop, length}
 use Rattle.cp_logic.specs.Clauses.{is_subset}
-use Rattle.cp_logic.proofs.clauses.is_subset.Given as goal
+use Rattle.cp_logic.proofs.passes.passes_over.Given as goal
 
 -- the literals that were found are in the others so far, and those that are left can only be in the rest
 abbrev pub invariant-loop-other : goal.invariant-loop-other
