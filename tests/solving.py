@@ -12,6 +12,7 @@ that a limit or a signal ends the solver and leaves no folder.
 import glob
 import itertools
 import os
+import random
 import shutil
 import signal
 import subprocess
@@ -64,10 +65,12 @@ def proof_fault(text, proof, solver):
     return check.proof_texts_fault(text, proof) or ("" if ends else "it has no empty clause")
 
 
-# A formula of which clauses are left: each variable is in three clauses of each sign, and a model is that all are true.
-LEFT = cases.text_of(4, [list(c) for c in itertools.product((1, -1), (2, -2), (3, -3), (4, -4)) if sum(x < 0 for x in c) in (0, 2, 3)])
+# A formula of which clauses are left, and that all variables true satisfy.
+DRAWN = random.Random(1)
+LEFT = cases.text_of(12, [[x, DRAWN.choice((y, -y)), DRAWN.choice((z, -z))]
+                          for x, y, z in (DRAWN.sample(range(1, 13), 3) for _ in range(60))])
 LACKING = pigeonholes(2).rsplit(b"\n", 2)[0] + b"\n"
-MODEL = "echo s SATISFIABLE; echo v 1 2 3 4"
+MODEL = "echo s SATISFIABLE; echo v 1 2 3 4 5 6 7 8 9 10 11 12"
 NAMED = "[ $# -eq 3 ] && [ $1 = --fast ] && [ $2 = {} ] || exit 1; head -n 1 $3 | grep -q ^p.cnf || exit 1; %s 0; exit 10" % MODEL
 
 # The formula, the solver's script, the words, which name the formula F and the solver S, the status, the last line on standard error
@@ -137,10 +140,12 @@ def signal_fault(program, number, status):
         told = {**made(folder, LEFT, "sleep 60 & echo $! $$ >pids.part; mv pids.part pids; wait"), "COPRO": program}
         pids = os.path.join(folder, "pids")
         with subprocess.Popen([SOLVE, "F", "S"], cwd=folder, env=told, stdout=subprocess.DEVNULL, stderr=subprocess.DEVNULL) as run:
-            soon(lambda: os.path.exists(pids))
+            if not soon(lambda: os.path.exists(pids)):
+                run.kill()
+                return "a solver that runs"
             run.send_signal(number)
             ended = run.wait(30)
-        there = [pid for pid in cases.held_by(pids).split() if not soon(lambda: not is_there(pid.decode()))]
+        there = [pid for pid in read(pids).split() if not soon(lambda: not is_there(pid))]
         for pid in there:
             os.kill(int(pid), signal.SIGKILL)
         if ended != status or there or os.listdir(os.path.join(folder, "tmp")):
@@ -148,10 +153,15 @@ def signal_fault(program, number, status):
         return ""
 
 
+def read(path):
+    with open(path, encoding="ascii", errors="replace") as file:
+        return file.read()
+
+
 def is_there(pid):
     """Whether a process runs; one that is just not waited for has an empty command line."""
     try:
-        return bool(cases.held_by("/proc/%s/cmdline" % pid))
+        return bool(read("/proc/%s/cmdline" % pid))
     except OSError:
         return False
 
