@@ -144,12 +144,12 @@ def signal_fault(program, number, status):
                 run.kill()
                 return "a solver that runs"
             run.send_signal(number)
-            ended = run.wait(30)
+            ended = run.wait(30) if soon(lambda: run.poll() is not None) else run.kill()
         there = [pid for pid in read(pids).split() if not soon(lambda: not is_there(pid))]
         for pid in there:
             os.kill(int(pid), signal.SIGKILL)
         if ended != status or there or os.listdir(os.path.join(folder, "tmp")):
-            return "the status %d, no process and no folder, not %d and %s" % (status, ended, there)
+            return "the status %d, no process and no folder, not %s and %s" % (status, ended, there)
         return ""
 
 
