@@ -7,7 +7,7 @@ docs/USAGE.md, docs/copro.1, docs/help/ and docs/completions/copro.bash name the
 values, defaults and statuses. The program takes each of them, with the least and the greatest value, and refuses, with 64, a value past either and an
 option of another command. Each run is given a file that isn't there, so it ends before it does anything.
 
-The worked examples of USAGE.md, in lines that begin with `$`, are run too, and print what stands below them.
+The worked examples of USAGE.md and README.md, in lines that begin with `$`, are run too, and print what stands below them.
 """
 import os
 import re
@@ -143,9 +143,9 @@ def program_faults(program, usage):
 
 
 def worked_examples():
-    """The commands of USAGE.md, each with the lines that it prints."""
+    """The commands of README.md and USAGE.md, each with the lines that it prints."""
     examples, printed = [], None
-    for line in read("USAGE.md").splitlines():
+    for line in [*read("..", "README.md").splitlines(), "", *read("USAGE.md").splitlines()]:
         if line.startswith("    $ "):
             printed = []
             examples.append((line[6:], printed))
