@@ -1,179 +1,347 @@
 #!/usr/bin/env python3
-"""Proves and builds the program: each crate once those that it stands on are built, several beside each other.
+"""Proves and builds the program: each crate after those that it uses, several at once. ./copro calls it.
 
     build.py                 builds crates/copro/out/copro
 
-`rt` proves a crate and makes a library of it; this script decides which crate is next and how many processors it gets: first the crate with
-the most work behind it. On a terminal one line says how far it is; elsewhere each crate gets a line when it is done. All that the prover
-prints goes into one log. Of two calls at once the second waits for the first. What an interrupted call has proved is kept.
+`rt` proves a crate and makes a library of it, and keeps other commands out of that crate and of all below it meanwhile. So each crate is
+proved in a tree of its own: copies of its sources and of those below, beside the libraries that are built already. What was made goes
+back to the crate's folder, also after an interrupt, so the next call goes on there.
+
+On a terminal one line says how far the build is; elsewhere each crate gets a line when it is done. All that the prover prints goes into a
+log. Of two calls at once the second waits for the first. Ends with 70 if a crate fails.
 """
-import concurrent.futures
+import collections
+import contextlib
 import fcntl
 import os
 import re
+import selectors
+import shutil
 import signal
 import subprocess
 import sys
-import threading
 import time
 
 TOP = os.path.dirname(os.path.realpath(__file__))
 OUT = f"{TOP}/crates/copro/out"
-PROGRAM = f"{OUT}/copro"
-# What one job of a check takes at most, in bytes.
-MEMORY = 2_500_000_000
+PROGRAM, LOG, TREES = f"{OUT}/copro", f"{OUT}/build.log", f"{OUT}/build"
+PARTS = ("src", "specs", "proofs")
+# What one job of a check takes, in bytes.
+MEMORY = 1_500_000_000
+# The lines of a crate that failed that are shown.
+SHOWN = 15
 CHECKED = re.compile(rb"so far: (\d+) of (\d+) functions checked")
 
 
-def dependencies():
-    """The crates that the program stands on, each with the repository's crates that it uses itself."""
-    found = {}
+# What is to be built.
+
+
+def crates_used():
+    """The crates that the program needs, each with the repository's crates that it uses itself."""
+    listed = {}
     with open(f"{TOP}/crates.txt", encoding="utf-8") as lines:
         for line in lines:
             name, colon, uses = line.split("#")[0].partition(":")
             if colon:
-                found[name.split()[0]] = uses.split()
+                listed[name.split()[0]] = uses.split()
     needed, left = {}, ["copro"]
     while left:
         name = left.pop()
         if name not in needed:
-            needed[name] = [it for it in found[name] if it in found]
+            needed[name] = [it for it in listed[name] if it in listed]
             left += needed[name]
     return needed
 
 
-def lines_of(crate):
+def all_below(crate, uses):
+    """The crates below one, each once."""
+    found = set()
+    for it in uses[crate]:
+        found |= {it} | all_below(it, uses)
+    return found
+
+
+def sources(crate):
+    for part in PARTS:
+        for folder, _, files in os.walk(f"{TOP}/crates/{crate}/{part}"):
+            yield from (f"{folder}/{name}" for name in files)
+
+
+def count_lines(crate):
     """A measure of the work that a crate's proof takes."""
     count = 0
-    for part in ("src", "specs", "proofs"):
-        for folder, _, files in os.walk(f"{TOP}/crates/{crate}/{part}"):
-            for name in files:
-                with open(f"{folder}/{name}", "rb") as file:
-                    count += file.read().count(b"\n")
+    for path in sources(crate):
+        with open(path, "rb") as file:
+            count += file.read().count(b"\n")
     return count
 
 
-def work_behind(uses):
-    """For each crate the most work on a way from it up to the program."""
+def work_ahead(uses):
+    """For each crate the most work on a way from it, with its own, up to the program."""
     most = {}
 
-    def behind(crate):
+    def ahead(crate):
         if crate not in most:
             above = [it for it in uses if crate in uses[it]]
-            most[crate] = lines_of(crate) + max((behind(it) for it in above), default=0)
+            most[crate] = count_lines(crate) + max((ahead(it) for it in above), default=0)
         return most[crate]
 
     for crate in uses:
-        behind(crate)
+        ahead(crate)
     return most
 
 
-def lanes():
-    """How many jobs fit the processors and the memory."""
-    processors = len(os.sched_getaffinity(0))
+def mark_of(crate):
+    """The file whose time says when the sources were read that a crate was last built from."""
+    return f"{TOP}/crates/{crate}/out/built"
+
+
+def is_current(crate, uses):
+    made = PROGRAM if crate == "copro" else f"{TOP}/crates/{crate}/out/rlib/stamp"
+    if not os.path.exists(made) or not os.path.exists(mark_of(crate)):
+        return False
+    built = os.path.getmtime(mark_of(crate))
+    below = [mark_of(it) for it in uses[crate] if os.path.exists(mark_of(it))]
+    return all(os.path.getmtime(it) <= built for it in [f"{TOP}/crates.txt", *sources(crate), *below])
+
+
+def stale_crates(uses):
+    """The crates that have to be built: those that are not current, and all above them."""
+    stale = {it for it in uses if not is_current(it, uses)}
+    return {it for it in uses if it in stale or stale & all_below(it, uses)}
+
+
+# The tree that one crate is proved in.
+
+
+def link_or_copy(one, other):
+    try:
+        os.link(one, other)
+    except OSError:
+        shutil.copy2(one, other)
+
+
+def move(one, other):
+    if os.path.isdir(one):
+        shutil.rmtree(other, ignore_errors=True)
+        os.makedirs(os.path.dirname(other), exist_ok=True)
+        os.rename(one, other)
+
+
+def make_tree(crate, below):
+    """Makes the crate's tree and returns its folder there. The libraries are linked: rt replaces such a file, and never writes into it."""
+    tree = f"{TREES}/{crate}"
+    for name in [*below, crate]:
+        for part in PARTS:
+            if os.path.isdir(f"{TOP}/crates/{name}/{part}"):
+                shutil.copytree(f"{TOP}/crates/{name}/{part}", f"{tree}/crates/{name}/{part}")
+    for name in below:
+        shutil.copytree(f"{TOP}/crates/{name}/out/rlib", f"{tree}/crates/{name}/out/rlib", copy_function=link_or_copy)
+    for kept in ("incremental", "rlib"):
+        move(f"{TOP}/crates/{crate}/out/{kept}", f"{tree}/crates/{crate}/out/{kept}")
+    with open(f"{TOP}/crates.txt", encoding="utf-8") as lines, open(f"{tree}/crates.txt", "w", encoding="utf-8") as own:
+        own.writelines(it for it in lines if it.partition(":")[0].split()[:1] in [[name] for name in [*below, crate]])
+    return f"{tree}/crates/{crate}"
+
+
+def give_back(crate):
+    """Moves what a crate's tree holds of its own to the crate's folder, and removes the tree."""
+    for kept in ("incremental", "rlib"):
+        move(f"{TREES}/{crate}/crates/{crate}/out/{kept}", f"{TOP}/crates/{crate}/out/{kept}")
+    shutil.rmtree(f"{TREES}/{crate}", ignore_errors=True)
+
+
+def take_lock(path):
+    """Locks a file or folder, which closing it ends. Returns None if another process has it."""
+    lock = os.open(path, os.O_RDONLY)
+    try:
+        fcntl.flock(lock, fcntl.LOCK_EX | fcntl.LOCK_NB)
+    except BlockingIOError:
+        os.close(lock)
+        return None
+    return lock
+
+
+class Proof:
+    """The proof of one crate under way."""
+
+    def __init__(self, crate, below, jobs, is_first, lock):
+        self.crate, self.jobs, self.lock, self.begun = crate, jobs, lock, time.time()
+        self.functions, self.rest, self.last = "", b"", collections.deque(maxlen=SHOWN)
+        # (a program is linked by running it: with a word that is no command it does nothing and ends with 64)
+        words, self.wanted = (["run", "--jobs", str(jobs), "--", "nothing"], 64) if crate == "copro" else (["lib", "--jobs", str(jobs)], 0)
+        folder = f"{TOP}/crates/{crate}" if crate == "copro" else make_tree(crate, below)
+        # (the longest chain of crates decides when all is done, so the processors serve its crate first)
+        how = {"stdin": subprocess.DEVNULL, "stdout": subprocess.PIPE, "stderr": subprocess.STDOUT, "start_new_session": True}
+        self.process = subprocess.Popen(["nice", "-n", "0" if is_first else "10", "rt", *words], cwd=folder, **how)
+
+    def read(self):
+        """Returns the lines that came, none at the end."""
+        came = os.read(self.process.stdout.fileno(), 65536)
+        *lines, self.rest = (self.rest + came).split(b"\n")
+        if not came and self.rest:
+            lines, self.rest = [self.rest], b""
+        for line in lines:
+            found = CHECKED.search(line)
+            if found:
+                self.functions = f" {int(found[1])} of {int(found[2])} functions"
+        self.last.extend(lines)
+        return lines if came else lines or None
+
+    def end(self):
+        """Ends the proof, also one under way, and returns whether it went well."""
+        with contextlib.suppress(ProcessLookupError):
+            if self.process.poll() is None:
+                os.killpg(self.process.pid, signal.SIGTERM)
+        self.process.wait()
+        self.process.stdout.close()
+        is_well = self.process.returncode == self.wanted
+        if self.crate != "copro":
+            give_back(self.crate)
+        if is_well:
+            with open(mark_of(self.crate), "wb"):
+                os.utime(mark_of(self.crate), (self.begun, self.begun))
+        if self.lock is not None:
+            os.close(self.lock)
+        return is_well
+
+
+# The build.
+
+
+def processors():
+    return len(os.sched_getaffinity(0))
+
+
+def places():
+    """How many jobs there may be at once. A job waits at times, so there are more of them than processors, as far as memory allows."""
     with open("/proc/meminfo", encoding="ascii") as lines:
         free = next((int(it.split()[1]) * 1024 for it in lines if it.startswith("MemAvailable")), MEMORY)
-    return max(1, min(processors, free // MEMORY))
+    return max(1, min(processors() * 3 // 2, free // MEMORY))
 
 
 class Build:
-    """The state of a build: what is running, what is done, and what is told of it."""
+    """A build under way: what is left, what is being proved, and what is told of it."""
 
-    def __init__(self, uses, log):
-        self.uses, self.log, self.started = uses, log, time.monotonic()
-        self.functions, self.running, self.done = {}, {}, []
-        self.lock, self.is_terminal = threading.Lock(), sys.stderr.isatty()
+    def __init__(self, uses, left, log):
+        self.uses, self.left, self.log = uses, left, log
+        self.started, self.is_terminal = time.time(), sys.stderr.isatty()
+        self.running, self.selector = {}, selectors.DefaultSelector()
+        self.done = len(uses) - len(left)
+        self.ahead, self.places = work_ahead(uses), places()
 
     def minutes(self):
-        return f"{(time.monotonic() - self.started) / 60:.1f} minutes"
+        return f"{(time.time() - self.started) / 60:.1f} minutes"
 
     def tell(self, line, stays=True):
+        """Says a line; one that doesn't stay is written over by the next, and told on a terminal alone."""
         if self.is_terminal:
-            sys.stderr.write(f"\r\033[K{line[:os.get_terminal_size(2).columns - 1]}" + "\n" * stays)
+            sys.stderr.write(f"\r\033[K{line if stays else line[: (os.get_terminal_size(2).columns or 80) - 1]}" + "\n" * stays)
         elif stays:
             sys.stderr.write(line + "\n")
         sys.stderr.flush()
 
     def show(self):
-        parts = [f"{it} {self.functions[it]}" if it in self.functions else it for it in sorted(self.running)]
-        self.tell(f"copro: {len(self.done)} of {len(self.uses)} crates, {self.minutes()}; now {', '.join(parts)}", stays=False)
+        now = ", ".join(it.crate + it.functions for it in self.running.values())
+        self.tell(f"copro: {self.done} of {len(self.uses)} crates, {self.minutes()}; now {now}", stays=False)
 
-    def prove(self, crate, jobs):
-        """Proves one crate and builds its library, or the program. Returns whether that went well."""
-        words = ["rt", "run", "--jobs", str(jobs), "--", "nothing"] if crate == "copro" else ["rt", "lib", "--jobs", str(jobs)]
-        process = subprocess.Popen(
-            words, cwd=f"{TOP}/crates/{crate}", stdin=subprocess.DEVNULL, stdout=subprocess.PIPE, stderr=subprocess.STDOUT, start_new_session=True
-        )
-        with self.lock:
-            self.running[crate] = process
-        for line in process.stdout:
-            with self.lock:
-                self.log.write(f"{crate}: ".encode() + line)
-                found = CHECKED.search(line)
-                if found:
-                    self.functions[crate] = f"{int(found[1])} of {int(found[2])} functions"
-                self.show()
-        # (with a word that is no command the program does nothing and ends with 64)
-        is_well = process.wait() == (64 if crate == "copro" else 0)
-        with self.lock:
-            del self.running[crate]
-            if is_well:
-                self.done.append(crate)
-                self.tell(f"copro: {len(self.done)} of {len(self.uses)} crates: {crate}, {self.minutes()}")
+    def note(self, line):
+        self.log.write(f"copro: {time.time() - self.started:.1f} s: {line}\n".encode())
+        self.log.flush()
+
+    def ready(self):
+        """The crates whose libraries are all built, first the one with the most work ahead."""
+        waits = self.left | set(self.running)
+        found = [it for it in self.left if not waits & set(self.uses[it])]
+        return sorted(found, key=lambda it: (-self.ahead[it], it))
+
+    def start_ready(self):
+        for crate in self.ready():
+            free = self.places - sum(it.jobs for it in self.running.values())
+            if free < 1:
+                return
+            # (rt itself keeps others out of the program's folder)
+            lock = None if crate == "copro" else take_lock(f"{TOP}/crates/{crate}")
+            if lock is not None or crate == "copro":
+                self.start(crate, free, lock)
+
+    def start(self, crate, free, lock):
+        # (a crate gets several jobs if, of those under way, it is the first on the longest chain)
+        is_first = all(self.ahead[it] < self.ahead[crate] for it in self.running)
+        jobs = min(free, processors(), 4) if is_first else 1
+        os.makedirs(f"{TOP}/crates/{crate}/out", exist_ok=True)
+        self.note(f"{crate} begins, {jobs} jobs{'' if is_first else ', after others'}")
+        proof = Proof(crate, sorted(all_below(crate, self.uses)), jobs, is_first, lock)
+        self.left.remove(crate)
+        self.running[crate] = proof
+        self.selector.register(proof.process.stdout, selectors.EVENT_READ, proof)
+
+    def read(self, proof):
+        """Reads what a proof said. Returns whether all is well."""
+        lines = proof.read()
+        for line in lines or []:
+            self.log.write(f"{proof.crate}: ".encode() + line + b"\n")
+        return True if lines is not None else self.end(proof)
+
+    def end(self, proof):
+        self.selector.unregister(proof.process.stdout)
+        del self.running[proof.crate]
+        is_well = proof.end()
+        self.note(f"{proof.crate} ends with {proof.process.returncode} after {time.time() - proof.begun:.1f} s")
+        if is_well:
+            self.done += 1
+            self.tell(f"copro: {self.done} of {len(self.uses)} crates: {proof.crate}, {self.minutes()}")
+        else:
+            self.tell(f"copro: {proof.crate} could not be built; the last lines of {self.log.name}:")
+            for line in proof.last:
+                self.tell(f"    {line.decode(errors='replace')}")
         return is_well
 
-    def stop(self):
-        for process in list(self.running.values()):
-            try:
-                os.killpg(process.pid, signal.SIGTERM)
-            except ProcessLookupError:
-                pass
-
     def run(self):
-        """Proves all crates, each behind those that it uses. Returns the crate that failed, if one did."""
-        behind, left, busy, given = work_behind(self.uses), set(self.uses), {}, lanes()
-        with concurrent.futures.ThreadPoolExecutor(given) as pool:
-            while left or busy:
-                ready = sorted((it for it in left if all(use in self.done for use in self.uses[it])), key=lambda it: -behind[it])
-                idle = given - sum(jobs for _, jobs in busy.values())
-                while ready and idle > 0:
-                    # (the longest chain decides when all is done, so its crate gets two processors where it can)
-                    jobs = min(idle, max(2 - len(busy), idle - len(ready) + 1, 1))
-                    crate = ready.pop(0)
-                    left.remove(crate)
-                    busy[pool.submit(self.prove, crate, jobs)] = crate, jobs
-                    idle -= jobs
-                for it in concurrent.futures.wait(busy, return_when=concurrent.futures.FIRST_COMPLETED).done:
-                    crate, _ = busy.pop(it)
-                    if not it.result():
-                        self.stop()
-                        return crate
-        return None
+        """Proves all that is left. Returns whether that went well."""
+        try:
+            while self.left or self.running:
+                self.start_ready()
+                for key, _ in self.selector.select(1):
+                    if not self.read(key.data):
+                        return False
+                if self.running:
+                    self.show()
+            return True
+        finally:
+            for proof in self.running.values():
+                proof.end()
+
+
+def build():
+    """Builds what isn't current. Returns the status."""
+    for crate in os.listdir(TREES) if os.path.isdir(TREES) else []:
+        # (a build that was killed left it)
+        give_back(crate)
+    uses, started = crates_used(), time.time()
+    stale = stale_crates(uses)
+    if stale:
+        with open(LOG, "wb") as log:
+            run = Build(uses, stale, log)
+            run.tell(f"copro: proving and building {len(stale)} of {len(uses)} crates; the prover's lines are in {LOG}")
+            if not run.run():
+                return 70
+            run.tell(f"copro: built in {run.minutes()}")
+    os.utime(PROGRAM, (started, started))
+    return 0
 
 
 def main():
+    signal.signal(signal.SIGTERM, lambda *_: sys.exit(143))
+    signal.signal(signal.SIGHUP, lambda *_: sys.exit(129))
     os.makedirs(OUT, exist_ok=True)
     with open(f"{OUT}/build.lock", "w", encoding="ascii") as lock:
         try:
             fcntl.flock(lock, fcntl.LOCK_EX | fcntl.LOCK_NB)
         except BlockingIOError:
-            print("copro: another call builds the program; waiting for it", file=sys.stderr)
+            print("copro: another call builds the program; waiting for it", file=sys.stderr, flush=True)
             fcntl.flock(lock, fcntl.LOCK_EX)
-        with open(f"{OUT}/build.log", "wb") as log:
-            build = Build(dependencies(), log)
-            build.tell(f"copro: proving and building {len(build.uses)} crates; the prover's lines are in {log.name}")
-            signal.signal(signal.SIGTERM, lambda *_: sys.exit(143))
-            try:
-                failed = build.run()
-            except BaseException:
-                build.stop()
-                raise
-        if failed:
-            build.tell(f"copro: {failed} could not be built: see {OUT}/build.log")
-            return 1
-        os.utime(PROGRAM)
-        build.tell(f"copro: built in {build.minutes()}")
-    return 0
+        return build()
 
 
 if __name__ == "__main__":

@@ -26,6 +26,8 @@ STACK = b"p stack 1 3 3\n1 2 0\n-1 3 0\n2 3 0\n"
 ONE_ELIMINATED = b"p cnf 3 2\n1 2 0\n-1 3 0\n"
 UNITS = b"p cnf 3 3\n1 0\n-1 2 0\n-2 3 0\n"
 LATCH = b"c latch\np cnf 8 7\n1 0\n-1 2 0\n-2 -3 4 0\n3 -4 0\n2 5 0\n-5 6 0\n5 -6 0\n"
+# An argument that isn't UTF-8.
+NO_TEXT = os.fsdecode(b"a\xff")
 BAD_OPTIONS = b"copro: bad options\n"
 BAD_LETTERS = b"copro: bad letters in --only\n"
 BAD_VALUE = b"copro: bad option value\n"
@@ -135,6 +137,8 @@ WRONG_WORDS = {
         ["simplify", "more"], ALL + ["more"], EXTEND + ["more"], ["generate", "7"], ["simplify", "--help"], ["simplify", "-h"],
         ["extend", "--help"], ["simplify", "-w", "0"], ["simplify", "--dense", "yes"], ["simplify", "--work", "0"],
         ["simplify", "--Workers", "0"], ["simplify", "--seed", "1"], ["generate", "--workers", "0"], ["extend", "--cnf", "a"],
+        # A word that is no text, whichever word it is.
+        [NO_TEXT], ["simplify", NO_TEXT], ["simplify", "--cnf", NO_TEXT], EXTEND + ["--model=" + NO_TEXT],
         # No value, one option twice, a required one missing.
         ["simplify", "--workers"], ["simplify", "--only"], ["simplify", "--cnf", "--stack", "a"], SX + ["--budget"],
         ["extend", "--stack"], ["extend"], ["extend", "--model", "a"], ALL + ["--workers", "0"], TS + ["--only", "ts"],

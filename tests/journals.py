@@ -4,13 +4,15 @@
     journals.py PROGRAM [COUNT [SEED]]
     journals.py rows
 
-COUNT formulas (24 where it isn't given) of each kind and size of workers.py are simplified with each number of workers. What is
+COUNT formulas (24 where it isn't given) of each kind and size of workers.py are simplified with each number of workers, and with one. What is
 checked goes by the definitions and holds in every interleaving:
 
 - each post is legal where it stands: its clauses are there under their numbers, its technique is chosen and fits, its new clauses
   have the next numbers, and the budget isn't spent;
 - the posts of the workers come first, each with a worker and a round that were, and each shift lists just the positions of its
-  worker's posts in its round, which are at variables that it took, in the order in which it took them; its rounds rise;
+  worker's posts in its round; its rounds rise;
+- each post of a worker is the first entry of the search, where it stands, at a variable that the shift took, in the order in which it
+  took them; and one worker posts just what visits of all variables in turn give, round by round;
 - in each round each variable was taken once, or at most once where a shift stopped, and no round followed one in which a shift stopped;
 - the posts of the sweep are those of its definition, up to where nothing applies or the run stops, and the stop is the right one;
 - the formula, the pairs and the log of the fold are the texts that were written.
@@ -245,11 +247,12 @@ def is_spent(fold, rules):
     return rules.budget != 0 and fold.posts == rules.budget
 
 
-def is_at(variable, entry):
+def variables_at(entry):
+    """Those that the entry is at."""
     if entry.kind in "ts":
         ((first, *_), *_) = entry.lists
-        return variable in first.clause or -variable in first.clause
-    return abs(entry.at) == variable
+        return sorted({abs(literal) for literal in first.clause})
+    return [abs(entry.at)]
 
 
 # The sweep: the first entry at the first variable that has one, going upwards and around from that of the last entry.
@@ -290,11 +293,16 @@ def is_legal(fold, rules, entry):
     return True
 
 
+def first_at(fold, rules, variable):
+    """The first legal entry at the variable, or None."""
+    return next((e for e in candidates(fold, variable, rules.letters, rules.bound) if is_legal(fold, rules, e)), None)
+
+
 def next_of_sweep(fold, rules, mark):
     """The variable and the entry, or two times None. The formula isn't refuted, and the budget isn't spent."""
     for variable in list(range(mark, fold.variables + 1)) + list(range(1, mark)):
         if variable not in fold.quiet:
-            found = next((e for e in candidates(fold, variable, rules.letters, rules.bound) if is_legal(fold, rules, e)), None)
+            found = first_at(fold, rules, variable)
             if found is not None:
                 return variable, found
             fold.quiet.add(variable)
@@ -312,19 +320,24 @@ def stop_after(fold, rules, mark):
 
 
 def folded(fold, rules, posts, stopped):
-    """Checks each post where it stands, those of the sweep by its definition, and the stop."""
+    """Checks each post where it stands, those of the sweep by its definition, and the stop. For each post of a worker the variables at which
+    it is what the search gives first."""
     mark = 1
+    searched = []
     for at, post in enumerate(posts):
         try:
             want_legal(fold, rules, post.entry)
             if post.worker == 0:
                 mark, entry = next_of_sweep(fold, rules, mark)
                 wants(entry == post.entry, "the sweep's %s", entry and entry.kind)
+            else:
+                searched.append({x for x in variables_at(post.entry) if first_at(fold, rules, x) == post.entry})
         except Fault as fault:
             raise Fault("%s, at post %d" % (fault, at)) from None
         fold.apply(post.entry)
     stop = stop_after(fold, rules, mark)
     wants(stopped == stop, "the stop %s", stop)
+    return searched
 
 
 # The workers.
@@ -340,8 +353,30 @@ def want_workers_first(asked, posts, begun):
             wants(1 <= post.worker <= asked.workers and 1 <= post.round <= begun, "a worker and a round that were at post %d", at)
 
 
-def want_shifts(asked, posts, shifts, stopped):
-    """The shifts stand by round and then worker."""
+def neighbourhood(fold, variable):
+    return {variable}.union(*({abs(literal) for literal in c.clause} for c in fold.clauses_with(variable, -variable)))
+
+
+def posts_alone(fold, asked, rules, begun):
+    """What one worker posts in so many rounds: at each variable in turn, where its neighbourhood is within the limit, the first entry of
+    the search until there is none."""
+    for number in range(1, begun + 1):
+        for variable in range(1, asked.variables + 1):
+            is_wide = len(neighbourhood(fold, variable)) > asked.hood
+            while not is_wide and (entry := first_at(fold, rules, variable)) is not None:
+                yield Post(1, number, entry)
+                fold.apply(entry)
+
+
+def want_alone(clauses, asked, rules, posts, shifts):
+    """The run of one worker is that of the plain order."""
+    expected = posts_alone(Fold(asked.variables, clauses), asked, rules, len(shifts))
+    for at, (post, other) in enumerate(itertools.zip_longest((p for p in posts if p.worker != 0), expected)):
+        wants(post == other, "the %s of the one worker at post %d", other and other.entry.kind, at)
+
+
+def want_shifts(asked, posts, shifts, stopped, searched):
+    """The shifts stand by round and then worker. Each post of a worker is what the search gives at one of the variables searched."""
     wants(len(shifts) % asked.workers == 0, "a shift of each worker in each round")
     begun = len(shifts) // asked.workers
     wants(begun <= asked.rounds, "at most %d rounds", asked.rounds)
@@ -355,7 +390,7 @@ def want_shifts(asked, posts, shifts, stopped):
         wants(not have_stopped or number == begun, "no round behind one in which a shift stopped")
         want_taken(asked, sorted(x for shift in team for x in shift.taken), have_stopped)
     for shift in shifts:
-        want_shift(asked, posts, shift)
+        want_shift(asked, posts, shift, searched)
         wants(shift.stopped in ("none", stopped), "the stop of the run, %s, of each shift that stopped", stopped)
     for worker in range(asked.workers):
         commits = [position for shift in shifts[worker :: asked.workers] for position in shift.commits]
@@ -367,7 +402,7 @@ def want_taken(asked, taken, have_stopped):
     wants(have_stopped or len(taken) == asked.variables, "each variable taken in a round")
 
 
-def want_shift(asked, posts, shift):
+def want_shift(asked, posts, shift, searched):
     who = "worker %d in round %d" % (shift.worker, shift.round)
     own = [at for at, post in enumerate(posts) if (post.worker, post.round) == (shift.worker, shift.round)]
     wants(shift.commits == own, "the commits %r of %s", own, who)
@@ -384,9 +419,9 @@ def want_shift(asked, posts, shift):
     visited = iter([x for x in shift.taken if x not in without_posts])
     x = next(visited, None)
     for position in shift.commits:
-        while x is not None and not is_at(x, posts[position].entry):
+        while x is not None and x not in searched[position]:
             x = next(visited, None)
-        wants(x is not None, "post %d at a variable that %s took, in their order", position, who)
+        wants(x is not None, "post %d as the search gives it at a variable that %s took, in their order", position, who)
 
 
 # The texts.
@@ -432,8 +467,10 @@ def fault_of(clauses, asked, rules, told, texts):
     try:
         posts, shifts, stopped = journal_of(told)
         fold = Fold(asked.variables, clauses)
-        folded(fold, rules, posts, stopped)
-        want_shifts(asked, posts, shifts, stopped)
+        searched = folded(fold, rules, posts, stopped)
+        want_shifts(asked, posts, shifts, stopped, searched)
+        if asked.workers == 1:
+            want_alone(clauses, asked, rules, posts, shifts)
         want_texts(fold, asked.form, texts)
     except Fault as fault:
         return str(fault)
@@ -486,6 +523,20 @@ stopped refuted
     {"status": 20, "reduced": b"p cnf 1 1\n0\n", "stack": b"p stack 1 1 0\n", "proof": b"0\n"},
 )
 
+# One worker, which posts the subsumption by the lesser number, and then at the second variable.
+ALONE = Stated(
+    b"p cnf 2 3\n1 2 0\n1 2 0\n2 -2 0\n",
+    Asked(variables=2, workers=1, rounds=1, hood=4),
+    Rules(letters="ts", bound=0, budget=0),
+    """\
+post 1 1 s by 1 1 2 0 gone 2 1 2 0
+post 1 1 t gone 3 2 -2 0
+shift 1 1 none taken 1 2 commits 0 1
+stopped none
+""",
+    {"status": 0, "reduced": b"p cnf 2 1\n1 2 0\n", "stack": b"p stack 1 2 0\n", "proof": b"d 1 2 0\nd 2 -2 0\n"},
+)
+
 # What is changed in the journal that is whole, each time a piece of it and what stands there then, and what is wrong with it.
 CHANGES = [
     # An entry that isn't legal where it stands.
@@ -516,10 +567,11 @@ CHANGES = [
     ([("post 2 2 b 3 gone 2 3 4 0\n", "")], "the sweep's b, at post 5"),
     ([("post 0 0 b 4 gone 7 4 6 0\n", "")], "that the sweep goes on with an entry b"),
     ([("t gone 1 1 -1 2", "s by 2 3 4 0 gone 3 3 4 5"), ("post 2 1 s by 2 3 4 0 gone 3 3 4 5", "post 2 1 t gone 1 1 -1 2")],
-     "post 0 at a variable that worker 1 in round 1 took, in their order"),
-    # Two posts that may stand in either order, but not beside this proof.
+     "post 0 as the search gives it at a variable that worker 1 in round 1 took, in their order"),
+    # Two posts in the other order, of which the search gives the later one first.
     ([("s by 2 3 4 0 gone 3 3 4 5 0\npost 2 1 x -3 by 2 3 4 0 on 4 -3 4 6 0 new 7 4 6 0",
-       "x -3 by 2 3 4 0 on 4 -3 4 6 0 new 7 4 6 0\npost 2 1 s by 2 3 4 0 gone 3 3 4 5 0")], "the log of the fold"),
+       "x -3 by 2 3 4 0 on 4 -3 4 6 0 new 7 4 6 0\npost 2 1 s by 2 3 4 0 gone 3 3 4 5 0")],
+     "post 1 as the search gives it at a variable that worker 2 in round 1 took, in their order"),
     ([("post 1 1 t gone 1 1 -1 2 0\npost 2 1 s by 2 3 4 0 gone 3 3 4 5 0",
        "post 2 1 s by 2 3 4 0 gone 3 3 4 5 0\npost 1 1 t gone 1 1 -1 2 0")], "the commits [1] of worker 1 in round 1"),
     # The sweep.
@@ -547,9 +599,9 @@ CHANGES = [
     ([("taken 1 2 5", "taken 1 2 5 7")], "each variable taken once in a round"),
     ([("taken 3 4 6", "taken 3 4"), (" late 6 1", "")], "each variable taken in a round"),
     ([("taken 1 2 5", "taken 5"), ("taken 3 4 6", "taken 3 4 6 1 2")],
-     "post 0 at a variable that worker 1 in round 1 took, in their order"),
+     "post 0 as the search gives it at a variable that worker 1 in round 1 took, in their order"),
     ([("commits 3\nshift 2 2", "commits 3 busy 5 3 2\nshift 2 2")],
-     "post 3 at a variable that worker 1 in round 2 took, in their order"),
+     "post 3 as the search gives it at a variable that worker 1 in round 2 took, in their order"),
     ([("busy 5 6 2", "busy 4 6 2")], "candidates, each left once, of worker 1 in round 1"),
     ([("busy 5 6 2", "busy 5 6 2 late 5 2")], "candidates, each left once, of worker 1 in round 1"),
     ([("busy 5 6 2", "busy 5 6 2 busy 2 6 2")], "candidates left in the order in which worker 1 in round 1 took them"),
@@ -582,6 +634,11 @@ OTHERS = [
     (WHOLE._replace(texts={**WHOLE.texts, "reduced": b"p cnf 6 1\n4 6 0\n"}), "the reduced formula of the fold"),
     (WHOLE._replace(texts={**WHOLE.texts, "stack": b"p stack 1 6 5\n5 6 0\n-5 2 0\n3 4 0\n4 6 0\n2 6 0\n"}), "the pairs of the fold"),
     (WHOLE._replace(texts={**WHOLE.texts, "proof": b""}), "the log of the fold"),
+    (ALONE, ""),
+    (ALONE._replace(told=ALONE.told.replace("s by 1 1 2 0 gone 2", "s by 2 1 2 0 gone 1")),
+     "post 0 as the search gives it at a variable that worker 1 in round 1 took, in their order"),
+    (ALONE._replace(told=ALONE.told.replace("post 1 1 t", "post 0 0 t").replace("commits 0 1", "commits 0")),
+     "the t of the one worker at post 1"),
     (REFUTED, ""),
     (REFUTED._replace(told=REFUTED.told.replace("shift 1 1", "post 2 1 x 1 by 2 -1 0 on 1 1 0 new 4 0\nshift 1 1")),
      "that clause 2 stands as it is told, at post 1"),
@@ -679,7 +736,7 @@ def main():
     tally = Tally()
     results = [
         tried(rng, program, kind, size, number, tally)
-        for kind in workers.KINDS for size in (workers.SMALL, workers.LARGE) for number in workers.WORKERS for _ in range(count)
+        for kind in workers.KINDS for size in (workers.SMALL, workers.LARGE) for number in (1,) + workers.WORKERS for _ in range(count)
     ]
     print("journals: %d passed, %d failed" % (sum(results), len(results) - sum(results)))
     print("journals: %s" % tally)

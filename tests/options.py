@@ -3,11 +3,11 @@
 
     options.py PROGRAM
 
-docs/USAGE.md, docs/copro.1 and docs/completions/copro.bash name the same commands and options, and the first two the same values and
-defaults. The program takes each of them, with the least and the greatest value, and refuses, with 64, a value past either and an
+docs/USAGE.md, docs/copro.1, docs/help/ and docs/completions/copro.bash name the same commands and options, and the first three the same
+values, defaults and statuses. The program takes each of them, with the least and the greatest value, and refuses, with 64, a value past either and an
 option of another command. Each run is given a file that isn't there, so it ends before it does anything.
 
-The worked examples of USAGE.md, in lines that begin with `$`, are run too, and print what stands below them.
+The worked examples of USAGE.md and README.md, in lines that begin with `$`, are run too, and print what stands below them.
 """
 import os
 import re
@@ -60,6 +60,27 @@ def manual_options():
     return options
 
 
+def help_options():
+    """The options of the pages that `copro help` prints."""
+    options = {}
+    for command in NOTHING_THERE:
+        for line in read("help", command + ".txt").splitlines():
+            row = re.match(r" +(--[a-z-]+) [A-Z]+ +(.*?\((\w+)\).*)", line)
+            if row:
+                options.setdefault(command, {})[row[1]] = values_of(row[2]), row[3]
+    return options
+
+
+def statuses():
+    """The statuses that each document names."""
+    manual = read("copro.1").partition(".SH EXIT STATUS")[2].partition(".SH DIAGNOSTICS")[0]
+    return {
+        "USAGE.md": set(re.findall(r"^\| (\d+) \|", read("USAGE.md"), flags=re.M)),
+        "copro.1": set(re.findall(r"^\.B (\d+)$", manual, flags=re.M)),
+        "help/copro.txt": set(re.findall(r"^(?:Status)? +(\d+) ", read("help", "copro.txt"), flags=re.M)),
+    }
+
+
 def completed(*words):
     """What the completion offers behind these words."""
     script = 'source "$0"; COMP_WORDS=("$@" ""); COMP_CWORD=$#; _copro; printf "%s\\n" "${COMPREPLY[@]}"'
@@ -72,10 +93,15 @@ def document_faults(usage, manual):
     """Where the documents differ."""
     if usage != manual:
         yield "USAGE.md and copro.1 differ:\n  %r\n  %r" % (usage, manual)
-    if set(completed()) != set(usage):
-        yield "the completion offers the commands %r" % completed()
+    if usage != help_options():
+        yield "USAGE.md and help/ differ:\n  %r\n  %r" % (usage, help_options())
+    if len({frozenset(it) for it in statuses().values()}) > 1:
+        yield "the documents name different statuses: %r" % statuses()
+    # (the wrapper ./copro answers the others itself)
+    if set(completed()) != {*usage, "help", "--help", "--version"} or set(completed("help")) != set(usage):
+        yield "the completion offers the commands %r, and after help %r" % (completed(), completed("help"))
     for command, options in usage.items():
-        if set(completed(command)) != set(options):
+        if set(completed(command)) != {*options, "--help"}:
             yield "the completion offers %r behind %s, and USAGE.md has %r" % (completed(command), command, sorted(options))
     if completed("simplify", "--proof-form") != ["text", "binary"]:
         yield "the completion offers %r behind --proof-form" % completed("simplify", "--proof-form")
@@ -117,9 +143,9 @@ def program_faults(program, usage):
 
 
 def worked_examples():
-    """The commands of USAGE.md, each with the lines that it prints."""
+    """The commands of README.md and USAGE.md, each with the lines that it prints."""
     examples, printed = [], None
-    for line in read("USAGE.md").splitlines():
+    for line in [*read("..", "README.md").splitlines(), "", *read("USAGE.md").splitlines()]:
         if line.startswith("    $ "):
             printed = []
             examples.append((line[6:], printed))

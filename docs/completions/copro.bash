@@ -5,15 +5,18 @@ _copro() {
     local word=${COMP_WORDS[COMP_CWORD]} last=${COMP_WORDS[COMP_CWORD - 1]} options
     COMPREPLY=()
     if ((COMP_CWORD == 1)); then
-        mapfile -t COMPREPLY < <(compgen -W "simplify extend generate" -- "$word")
+        mapfile -t COMPREPLY < <(compgen -W "simplify extend generate help --help --version" -- "$word")
         return
     fi
     case ${COMP_WORDS[1]} in
         simplify) options="--cnf --reduced --stack --proof --summary --workers --rounds --hood --bound --budget --only --proof-form" ;;
         extend) options="--stack --model --full" ;;
         generate) options="--seed --vars --clauses --summary" ;;
+        help) options="simplify extend generate" ;;
         *) return ;;
     esac
+    # A command's help stands alone after it.
+    [[ ${COMP_WORDS[1]} == help ]] || ((COMP_CWORD > 2)) || options+=" --help"
     # Bash cuts a word at its `=`: of `--cnf=a` the words are `--cnf`, `=` and `a`.
     if [[ $word == = ]]; then
         word=

@@ -1,5 +1,5 @@
 -- A row of locks, each got by one try, up to the first that is held.
-use Rattle.std.specs.Prelude.{◌≡◌, ℕ, ◌<◌, List, ◌∷◌, ◌++◌, length}
+use Rattle.std.specs.Prelude.{◌≡◌, ℕ, ◌<◌, ◌≤◌, List, ◌∷◌, ◌++◌, length}
 use Rattle.cp_logic.specs.Formulas.{neighbourhood}
 use Rattle.cp_occ.specs.Cells.{CellView, variables_of}
 use Rattle.cp_yard.specs.Views.{Met, SeatView, noted}
@@ -27,6 +27,10 @@ abbrev pub IsRowAnswer : List ℕ → SeatView → SeatView → List CellView �
 IsRowAnswer vars v w before after (Busy var by) = IsCutRow vars v w before after var by
 IsRowAnswer vars v w before after (Wide count) = ⊥
 IsRowAnswer vars v w before after NoMemory = ⊥
+
+-- the number is one that a variable can have
+abbrev pub IsVariable : ℕ → Type 0
+IsVariable y = (1 ≤ y) × (y ≤ 2000000)
 
 -- why the others are not tried: the neighbourhood of the cell's variable is above the limit, or memory is wanting
 abbrev pub IsPlanAnswer : CellView → ℕ → HoodAnswer → Type 0

@@ -1,9 +1,9 @@
 //! The neighbourhood of a cell: its variable and all variables of its clauses.
 ghost use Rattle.std.specs.Prelude.{◌≡◌, ◌≤◌, ◌++◌, [], length, map, IfOk, IfErr, OnOk};
-ghost use Rattle.std.specs.List.{All};
+ghost use Rattle.std.specs.List.{All, Contains};
 ghost use Rattle.cp_logic.specs.Literals.{variable_of};
-ghost use Rattle.cp_logic.specs.Formulas.{neighbourhood};
-ghost use Rattle.cp_hood.specs.Rows.{IsPlanAnswer};
+ghost use Rattle.cp_logic.specs.Formulas.{neighbourhood, set_of};
+ghost use Rattle.cp_hood.specs.Rows.{IsPlanAnswer, IsVariable};
 
 use crate::answers::HoodAnswer;
 use cp_logic::Clause;
@@ -37,23 +37,30 @@ fn neighbourhood(alloc: Global, cell: &Cell) -> Result<Vec<u32>, AllocError>
     ensures variables { IfOk result (λ vars. vars.items ≡ neighbourhood cell.now.clauses cell.now.variable) }
     ensures few { IfOk result (λ vars. length vars.items ≤ 2000000) }
 {
+    let centre = cell.var();
     let mut vars = Vec::new(alloc);
-    vars.push(cell.var())?;
+    vars.push(centre)?;
     for (_number, clause) in cell.iter() {
-        push_variables(&mut vars, clause)?;
+        push_others(&mut vars, clause, centre)?;
     }
     vars.as_mut_slice().sort_unstable();
     vars.dedup();
     Ok(vars)
 }
 
-// Appends the variables of the clause's literals.
-fn push_variables(vars: &mut Vec<u32>, clause: &Clause) -> Result<(), AllocError>
-    ensures variables { OnOk result (vars.new.items ≡ vars.old.items ++ map variable_of clause.now) }
-    ensures range { OnOk result (All (λ y. (1 ≤ y) × (y ≤ 2000000)) (map variable_of clause.now)) }
+// Appends the variables of the clause's literals but the centre's, which is there. So a clause of two literals, as are most of a
+// long cell, gives one variable to be sorted.
+fn push_others(vars: &mut Vec<u32>, clause: &Clause, centre: u32) -> Result<(), AllocError>
+    requires { Contains vars.old.items centre }
+    ensures variables { OnOk result (set_of vars.new.items ≡ set_of (vars.old.items ++ map variable_of clause.now)) }
+    ensures centre { OnOk result (Contains vars.new.items centre) }
+    ensures range { OnOk result (All IsVariable vars.old.items → All IsVariable vars.new.items) }
 {
     for lit in clause.lits() {
-        vars.push(lit.var())?;
+        let var = lit.var();
+        if var != centre {
+            vars.push(var)?;
+        }
     }
     Ok(())
 }

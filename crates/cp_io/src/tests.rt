@@ -201,8 +201,8 @@ fn prints_through_a_buffer(rt: HostRuntime) -> Result<(), Fail> {
 }
 
 #[test]
-fn binds_standard_names_alone(rt: HostRuntime) -> Result<(), Fail> {
-    for (name, fails) in [("none", false), ("std", false), ("", true), ("stdin", true)] {
+fn binds_none_and_no_missing_file(rt: HostRuntime) -> Result<(), Fail> {
+    for (name, fails) in [("none", false), ("", true), ("stdin", true)] {
         let mut desk = StdDesk::new(rt);
         assert_eq!(rt; bind_of(&mut desk, name).is_err(), fails, "{name}");
     }

@@ -17,11 +17,11 @@ use Rattle.std.proofs.lemmas.Option.{none-some, same_Some}
 use native.Mathlib.Decide.{ℕ_discrete}
 use Rattle.cp_yard.specs.Sitting.{Sitting, YardView}
 use Rattle.cp_claim.specs.Views.{View, Counter, Share, share, all_shares, times, times_named, ends, once_below, IsAlone, DrawsOnly}
-use Rattle.cp_claim.proofs.Views.{times-own, once_below-le}
+use Rattle.cp_claim.proofs.Views.{times-own}
 use Rattle.cp_worker.specs.declared.lists.WorkerShift.{WorkerShift}
 use Rattle.cp_worker.specs.Shifts.{candidates_of}
 use Rattle.cp_phase.specs.declared.team.Member.{Member}
-use Rattle.cp_phase.specs.Rounds.{times_taken, NoneStopped}
+use Rattle.cp_phase.specs.Rounds.{times_taken, once_in, NoneStopped}
 use Rattle.cp_phase.specs.Teams.{IsSeatOf, AreSeats, founder_of, claim_of, members_from, claims_joined, IsReady, IsWork, IsTaken, HasWorked, IsRound}
 use Rattle.cp_phase.proofs.Lists.{written_over, zip_from}
 use Rattle.cp_phase.proofs.Joins.{IsOut, drawn_of_all, claim_shares, claims_joined-is}
@@ -188,11 +188,15 @@ count-zero (z ∷ zs) =
 pub taken_times : (ss : List WorkerShift) (drawn : List ℕ) (bound : ℕ) → flat_map (λ s. s.taken.items) ss ≡ candidates_of drawn → ((x : ℕ) → times x drawn ≡ once_below x bound) → (x : ℕ) → times_taken (x + 1) ss ≡ once_below x bound
 taken_times ss drawn bound e d x = ap (λ (l : List ℕ). count_by (λ y. y == x + 1) l) e ∙ (count-candidates x drawn ∙ d x)
 
-pub taken_few : (ss : List WorkerShift) (drawn : List ℕ) (bound : ℕ) → flat_map (λ s. s.taken.items) ss ≡ candidates_of drawn → ((x : ℕ) → times x drawn ≡ once_below x bound) → (x : ℕ) → times_taken x ss ≤ 1
-taken_few ss drawn bound e d zero = let z : times_taken 0 ss ≡ 0 = ap (λ (l : List ℕ). count_by (λ y. y == 0) l) e ∙ count-zero drawn in omega arith
-taken_few ss drawn bound e d (suc x) =
+pub taken_few : (ss : List WorkerShift) (drawn : List ℕ) (bound variables : ℕ) → bound ≤ variables → flat_map (λ s. s.taken.items) ss ≡ candidates_of drawn
+    → ((x : ℕ) → times x drawn ≡ once_below x bound) → (x : ℕ) → times_taken x ss ≤ once_in x variables
+taken_few ss drawn bound variables few e d zero = let z : times_taken 0 ss ≡ 0 = ap (λ (l : List ℕ). count_by (λ y. y == 0) l) e ∙ count-zero drawn in omega arith
+taken_few ss drawn bound variables few e d (suc x) =
     let a = taken_times ss drawn bound e d x in let n : x + 1 ≡ suc x = omega arith in let b : times_taken (suc x) ss ≡ once_below x bound = ap (λ (k : ℕ). times_taken k ss) (sym n) ∙ a in
-    let c = once_below-le x bound in omega arith
+    let c = within x bound variables few in omega arith
+  where
+    within : (x bound variables : ℕ) → bound ≤ variables → once_below x bound ≤ once_in (suc x) variables
+    within x bound variables few = grind arith
 
 pub taken_each : (ss : List WorkerShift) (drawn : List ℕ) (bound : ℕ) → flat_map (λ s. s.taken.items) ss ≡ candidates_of drawn → ((x : ℕ) → times x drawn ≡ once_below x bound)
     → (x : ℕ) → 1 ≤ x → x ≤ bound → times_taken x ss ≡ 1
@@ -233,7 +237,7 @@ round_from y c limit r seats ms ss v word bound some are h e is drawn ended =
       seats = seats_after c limit r y seats ms are h;
       count = sym (length-some ss) ∙ (sym (ap length e) ∙ (length-shifts ms ∙ long));
       work = work_at c limit r seats ms ss h e;
-      taken_once = taken_few ss (drawn_of_all ms) (min c.limit word) t d;
+      taken_once = taken_few ss (drawn_of_all ms) (min c.limit word) y.base.formula.variables (omega arith) t d;
       taken_all = λ x none low high.
           let F : Share → ℕ = λ z. if is_some z.end then 1 else 0 in
           let some_end = some_ended c limit r 1 seats ms ss some h e none in

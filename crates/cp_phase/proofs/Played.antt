@@ -14,7 +14,7 @@ use Rattle.cp_yard.specs.Sitting.{Sitting, YardView}
 use Rattle.cp_worker.specs.declared.lists.WorkerShift.{WorkerShift}
 use Rattle.cp_worker.specs.Visits.{positions, IsPostOf}
 use Rattle.cp_worker.specs.Shifts.{IsShift}
-use Rattle.cp_phase.specs.Rounds.{of_round, shift_at, times_taken, NoneStopped, OneStopped, all_notes, IsShiftIn, EndsAt, AreShifts}
+use Rattle.cp_phase.specs.Rounds.{of_round, shift_at, times_taken, once_in, NoneStopped, OneStopped, all_notes, IsShiftIn, EndsAt, AreShifts}
 use Rattle.cp_phase.specs.Teams.{AreSeats, AreNew, IsRound, in_round, AreDone, ArePlayed}
 use Rattle.cp_phase.proofs.Lists.{at_front, at_back, some_at, row_front, row_back, row_past, filter-none, filter-all, AllPairs-append, before, ascending, in_enumerated}
 
@@ -135,7 +135,7 @@ played_start y limit n seats team are new = record {
     all = e.notes;
     each = λ r s at_s. absurd (none-some s at_s);
   };
-  taken_once = λ r x. subst (λ (l : List WorkerShift). times_taken x l ≤ 1) (sym (row_past (r * n) n [] (omega arith))) (omega arith);
+  taken_once = λ r x. subst (λ (l : List WorkerShift). times_taken x l ≤ once_in x y.base.formula.variables) (sym (row_past (r * n) n [] (omega arith))) (omega arith);
   taken_all = λ r x low. absurd (omega arith);
 }
 
@@ -156,10 +156,10 @@ module _ (y : YardView) (limit n b : ℕ) (seats news : List Sitting) (shifts ss
         (p.each i v.0 v.1) k.goes.notes k.goes.posts
         (subst (λ (z : Base × ℕ). IsShift z.0 z.1 (b + 1) limit k.noted k.posted k.drawn s.0) (λ j. (is.base j, is.number j)) k.shift);
     taken_once = λ r x. ⊎_elim
-        (λ (less : r < b). subst (λ (l : List WorkerShift). times_taken x l ≤ 1) (sym (front_row n b shifts ss p.count few r less)) (p.taken_once r x))
+        (λ (less : r < b). subst (λ (l : List WorkerShift). times_taken x l ≤ once_in x y.base.formula.variables) (sym (front_row n b shifts ss p.count few r less)) (p.taken_once r x))
         (λ (ge : b ≤ r). ⊎_elim
-        (λ (e : r ≡ b). subst (λ (l : List WorkerShift). times_taken x l ≤ 1) (sym (last_row n b shifts ss p.count few r e)) (o.taken_once x))
-        (λ (ne : r ≢ b). subst (λ (l : List WorkerShift). times_taken x l ≤ 1) (sym (past_row n b shifts ss p.count few r (omega arith))) (omega arith))
+        (λ (e : r ≡ b). subst (λ (l : List WorkerShift). times_taken x l ≤ once_in x y.base.formula.variables) (sym (last_row n b shifts ss p.count few r e)) (o.taken_once x))
+        (λ (ne : r ≢ b). subst (λ (l : List WorkerShift). times_taken x l ≤ once_in x y.base.formula.variables) (sym (past_row n b shifts ss p.count few r (omega arith))) (omega arith))
         (cases_eq r b))
         (cases_lt r b);
     taken_all = λ r x low none one most. ⊎_elim

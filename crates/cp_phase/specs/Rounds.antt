@@ -1,5 +1,5 @@
 -- Rounds: shifts of all workers, round by round.
-use Rattle.std.specs.Prelude.{◌≡◌, ◌≢◌, ◌⊎◌, ℕ, ◌+◌, ◌*◌, ◌<◌, ◌≤◌, ◌==◌, Option, Some, None, List, [], take, drop, length, slice_get}
+use Rattle.std.specs.Prelude.{◌≡◌, ◌≢◌, ◌⊎◌, ℕ, ◌+◌, ◌*◌, ◌<◌, ◌≤◌, ◌==◌, ◌&&◌, nat_le, if◌then◌else◌, Option, Some, None, List, [], take, drop, length, slice_get}
 use Rattle.std.specs.List.{count_by, flat_map, All, Contains}
 use Rattle.cp_logic.specs.declared.stop.Stop.{Stop}
 use Rattle.cp_logic.specs.Journals.{Post, posts_in_round}
@@ -19,6 +19,10 @@ shift_at workers r w shifts = slice_get shifts (r * workers + w)
 -- how often the variable was taken as a candidate
 abbrev pub times_taken : ℕ → List WorkerShift → ℕ
 times_taken x shifts = count_by (λ y. y == x) (flat_map (λ s. s.taken.items) shifts)
+
+-- how often at most a variable is taken in a round of a formula of so many variables, which are counted from 1: once, and no other number
+abbrev pub once_in : ℕ → ℕ → ℕ
+once_in x variables = if nat_le 1 x && nat_le x variables then 1 else 0
 
 abbrev pub NoneStopped : List WorkerShift → Type 0
 NoneStopped shifts = All (λ s. s.stopped ≡ None) shifts
@@ -55,13 +59,14 @@ pub record EndsAt (workers rounds begun : ℕ) (shifts : List WorkerShift) : Typ
   pub last : (begun ≡ rounds) ⊎ ((r : ℕ) × (r + 1 ≡ begun) × OneStopped (of_round workers r shifts))
 
 -- The shifts of so many workers in at most so many rounds, with this limit of a neighbourhood, after which the journal is h, and the shares of the
--- seats are these. They stand by round and then worker. Where no shift of a round stopped, each variable was taken once in it, and else at most once.
+-- seats are these. They stand by round and then worker. Where no shift of a round stopped, each variable was taken once in it, and else at most once;
+-- and nothing else was taken.
 pub record AreShifts (f : Base) (workers rounds limit : ℕ) (h : List Post) (shares : List Share) (shifts : List WorkerShift) : Type 0 where
   pub begun : ℕ
   pub count : length shifts ≡ begun * workers
   pub each : (w : ℕ) → w < workers → AreShiftsOf f limit h shares (w + 1) begun (λ r. shift_at workers r w shifts)
   pub ends : EndsAt workers rounds begun shifts
-  pub taken_once : (r x : ℕ) → times_taken x (of_round workers r shifts) ≤ 1
+  pub taken_once : (r x : ℕ) → times_taken x (of_round workers r shifts) ≤ once_in x f.formula.variables
   pub taken_all : (r x : ℕ) → r < begun → NoneStopped (of_round workers r shifts) → 1 ≤ x → x ≤ f.formula.variables → times_taken x (of_round workers r shifts) ≡ 1
   -- what a worker posts in an earlier round comes before what it posts in a later one
   pub rising : (r q w : ℕ) (s t : WorkerShift) → r < q → w < workers → shift_at workers r w shifts ≡ Some s → shift_at workers q w shifts ≡ Some t

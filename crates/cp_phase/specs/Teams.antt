@@ -12,7 +12,7 @@ use Rattle.cp_claim.specs.Views as claims
 use Rattle.cp_worker.specs.declared.lists.WorkerShift.{WorkerShift}
 use Rattle.cp_worker.specs.Shifts.{candidates_of, IsShift}
 use Rattle.cp_phase.specs.declared.team.Member.{Member}
-use Rattle.cp_phase.specs.Rounds.{of_round, shift_at, times_taken, NoneStopped, all_notes, IsShiftIn}
+use Rattle.cp_phase.specs.Rounds.{of_round, shift_at, times_taken, once_in, NoneStopped, all_notes, IsShiftIn}
 
 -- ---- seats
 
@@ -102,7 +102,7 @@ pub record IsRound (y : YardView) (limit in_round : ℕ) (olds news : List Sitti
   pub seats : AreSeats y news
   pub count : length shifts ≡ length olds
   pub work : (i : ℕ) (v w : Sitting) (s : WorkerShift) → slice_get olds i ≡ Some v → slice_get news i ≡ Some w → slice_get shifts i ≡ Some s → IsWork limit in_round v.view w.view s
-  pub taken_once : (x : ℕ) → times_taken x shifts ≤ 1
+  pub taken_once : (x : ℕ) → times_taken x shifts ≤ once_in x y.base.formula.variables
   pub taken_all : (x : ℕ) → NoneStopped shifts → 1 ≤ x → x ≤ y.base.formula.variables → times_taken x shifts ≡ 1
 
 -- ---- all rounds until then
@@ -127,5 +127,5 @@ pub record ArePlayed (y : YardView) (limit workers begun : ℕ) (seats : List Si
   pub are_seats : AreSeats y seats
   pub count : length shifts ≡ begun * workers
   pub each : (i : ℕ) (v : Sitting) → slice_get seats i ≡ Some v → AreDone y.base limit workers i begun shifts v.view.own.notes v.view.own.posts
-  pub taken_once : (r x : ℕ) → times_taken x (of_round workers r shifts) ≤ 1
+  pub taken_once : (r x : ℕ) → times_taken x (of_round workers r shifts) ≤ once_in x y.base.formula.variables
   pub taken_all : (r x : ℕ) → r < begun → NoneStopped (of_round workers r shifts) → 1 ≤ x → x ≤ y.base.formula.variables → times_taken x (of_round workers r shifts) ≡ 1

@@ -52,7 +52,7 @@ module _ (f : Formula) (rules : Rules) (b g : BookView) (base : Base) (made : b 
     team = record {
       alone = not-none workers rounds _ some more;
       team = λ _ _. (k, refl, subst (λ (x : Base). AreShifts x workers rounds limit g.posts (all_shares k) shifts.items) base-is ran);
-      account = λ _ _. (k, refl, subst (λ (x : Base). Account x g.posts (all_shares k) (workers + 1)) base-is account, ap (λ (x : Share). x.posts) own-is, ap (λ (x : Share). x.notes) own-is);
+      account = λ _ _. (k, refl, subst (λ (x : Base). Account x g.posts (all_shares k) (workers + 1)) base-is account, ap (λ (x : Share). x.number) own-is, ap (λ (x : Share). x.posts) own-is, ap (λ (x : Share). x.notes) own-is);
     }
 
     pub result-of : IsResult workers rounds limit f rules (record { swept = s; shifts = shifts; kept = Some k })

@@ -17,4 +17,4 @@ pub record IsTeamwork (workers rounds limit : ℕ) (f : Formula) (rules : Rules)
   pub alone : (workers ≡ 0) ⊎ (rounds ≡ 0) → (worked ≡ []) × (shifts ≡ []) × (kept ≡ None)
   pub team : 1 ≤ workers → 1 ≤ rounds → (k : SeatView) × (kept ≡ Some k) × AreShifts (base_at f rules) workers rounds limit worked (all_shares k) shifts
   pub account : 1 ≤ workers → 1 ≤ rounds
-      → (k : SeatView) × (kept ≡ Some k) × Account (base_at f rules) worked (all_shares k) (workers + 1) × (k.own.posts ≡ []) × (k.own.notes ≡ [])
+      → (k : SeatView) × (kept ≡ Some k) × Account (base_at f rules) worked (all_shares k) (workers + 1) × (k.own.number ≡ 0) × (k.own.posts ≡ []) × (k.own.notes ≡ [])

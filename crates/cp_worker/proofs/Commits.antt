@@ -25,7 +25,7 @@ use Rattle.cp_hood.specs.declared.answers.CommitAnswer.{CommitAnswer}
 use Rattle.cp_hood.specs.declared.answers.CommitAnswer.TheVariants.{TurnHeld, Refuted, Spent, Numbers}
 use Rattle.cp_worker.specs.declared.answer.AtAnswer.{AtAnswer}
 use Rattle.cp_worker.specs.declared.answer.AtAnswer.TheVariants.{Settled, Busy, Wide, TurnHeld as Late, Stopped}
-use Rattle.cp_worker.specs.Visits.{positions, commits_of, clauses_after, hood_tries, turn_tries, IsPostOf, AreTurns, AreCommits, IsHeld, notes_of, EndsLocked, EndsVisit, IsVisit}
+use Rattle.cp_worker.specs.Visits.{positions, commits_of, clauses_after, hood_tries, turn_tries, IsPostOf, IsFound, AreFound, AreCommits, IsHeld, notes_of, EndsLocked, EndsVisit, IsVisit}
 use Rattle.cp_worker.specs.Shifts.{Gives, IsSettled, EndsStopped}
 use Rattle.cp_worker.specs.Posting.{HasPosted, IsRefusal, IsCauseOf}
 use Rattle.cp_worker.proofs.Centres.{posted-at, centre-after}
@@ -39,7 +39,7 @@ pub record IsUnderWay (v w : SeatView) (x in_round : ℕ) (cs now : List Named) 
   pub posts : All (IsPostOf v.number in_round) posted
   pub at : All (λ q. IsTrue (is_at x q.1.entry)) posted
   pub clauses : now ≡ clauses_after x cs posted
-  pub turns : AreTurns posted noted
+  pub each : AreFound v.base x cs posted noted
 
 pub begins : (v : SeatView) (x in_round : ℕ) (cs : List Named) (listed : List ℕ) → listed ≡ [] → IsUnderWay v v x in_round cs cs listed
 begins v x in_round cs listed e = record {
@@ -50,27 +50,29 @@ begins v x in_round cs listed e = record {
   posts = All-nil (IsPostOf v.number in_round);
   at = All-nil (λ (q : ℕ × Post). IsTrue (is_at x q.1.entry));
   clauses = refl;
-  turns = refl;
+  each = refl;
 }
 
 clauses_after-more : (x : ℕ) (cs : List Named) (ps qs : List (ℕ × Post)) → clauses_after x cs (ps ++ qs) ≡ clauses_after x (clauses_after x cs ps) qs
 clauses_after-more x cs [] qs = refl
 clauses_after-more x cs (p ∷ ps) qs = clauses_after-more x (after cs x p.1.entry) ps qs
 
--- the turn was got once more
-turns-more : (posted : List (ℕ × Post)) (q : ℕ × Post) (turns row : List Note) (h : List Post) → AreTurns posted turns → GetsTurn turn_tries row h → q.0 ≡ length h
-    → AreTurns (posted ++ q ∷ []) (turns ++ row)
-turns-more [] q turns row h e g n = (h, row, [], ap (λ (ns : List Note). ns ++ row) e ∙ sym (append-nil row), g, n, refl)
-turns-more (p ∷ ps) q turns row h (j, first, rest, e, g, n, more) k m =
-    (j, first, rest ++ row, ap (λ (ns : List Note). ns ++ row) e ∙ append_assoc first rest row, g, n, turns-more ps q rest row h more k m)
+-- one post more, for which the turn was got
+found-more : (f : Base) (x : ℕ) (cs : List Named) (posted : List (ℕ × Post)) (q : ℕ × Post) (turns row : List Note) (h : List Post) → AreFound f x cs posted turns → GetsTurn turn_tries row h
+    → IsFound f x (clauses_after x cs posted) h q → AreFound f x cs (posted ++ q ∷ []) (turns ++ row)
+found-more f x cs [] q turns row h e g n = (h, row, [], ap (λ (ns : List Note). ns ++ row) e ∙ sym (append-nil row), g, n, refl)
+found-more f x cs (p ∷ ps) q turns row h (j, first, rest, e, g, n, more) k m =
+    (j, first, rest ++ row, ap (λ (ns : List Note). ns ++ row) e ∙ append_assoc first rest row, g, n, found-more f x (after cs x p.1.entry) ps q rest row h more k m)
 
 -- one commit more
 pub goes_on : (v w u : SeatView) (x in_round : ℕ) (cs : List Named) (rules : Rules) (old new : HoodView) (e : Entry) (listed now : List ℕ) (noted : List Note) (posted : List (ℕ × Post))
-    → old.centre ≡ x → first_in (centre_clauses old) rules 1 old.centre ≡ Some e → IsUnderWay v w x in_round cs (centre_clauses old) listed
+    → old.centre ≡ x → rules ≡ v.base.rules → first_in (centre_clauses old) rules 1 old.centre ≡ Some e → IsUnderWay v w x in_round cs (centre_clauses old) listed
     → GoesOn w u noted posted → HasPosted w.base w.number in_round e old new listed now noted posted → IsUnderWay v u x in_round cs (centre_clauses new) now
-goes_on v w u x in_round cs rules old new e listed now noted posted at found way go p =
+goes_on v w u x in_round cs rules old new e listed now noted posted at same found way go p =
     let n = (left_by w.base p.before).next in
     let q : ℕ × Post = (length p.before, post_after w.base p.before w.number in_round e) in
+    let searched : first_in (clauses_after x cs way.posted) v.base.rules 1 x ≡ Some e = ap (λ (ds : List Named). first_in ds v.base.rules 1 x) (sym way.clauses)
+    ∙ ap (λ z. first_in (centre_clauses old) v.base.rules 1 z) (sym at) ∙ ap (λ (z : Rules). first_in (centre_clauses old) z 1 old.centre) (sym same) ∙ found in
     let is_at_x : is_at x (numbered n e) ≡ _ = subst (λ z. IsTrue (is_at z (numbered n e))) at (posted-at rules n e old new found p.hood) in
     record {
       noted = way.noted ++ noted;
@@ -82,7 +84,12 @@ goes_on v w u x in_round cs rules old new e listed now noted posted at found way
           (All-cons (λ (z : ℕ × Post). IsTrue (is_at x z.1.entry)) q [] is_at_x (All-nil (λ (z : ℕ × Post). IsTrue (is_at x z.1.entry))));
       clauses = centre-after rules n e old new found p.hood ∙ ap (λ (ds : List Named). after ds old.centre (numbered n e)) way.clauses
           ∙ ap (λ z. after (clauses_after x cs way.posted) z (numbered n e)) at ∙ sym (clauses_after-more x cs way.posted (q ∷ []));
-      turns = turns-more way.posted q way.noted noted p.before way.turns p.turn refl;
+      each = found-more v.base x cs way.posted q way.noted noted p.before way.each p.turn (record {
+        position = refl;
+        found = e;
+        first = searched;
+        entry = ap (λ (f : Base). numbered (left_by f p.before).next e) way.goes.base;
+      });
     }
 
 -- where nothing applies at last
@@ -92,7 +99,7 @@ settles v w x in_round cs now commits way none = record {
   commits = way.commits;
   posts = way.posts;
   at = way.at;
-  cause = (way.turns, ap (λ (ds : List Named). first_in ds v.base.rules 1 x) (sym way.clauses) ∙ none);
+  cause = (way.each, ap (λ (ds : List Named). first_in ds v.base.rules 1 x) (sym way.clauses) ∙ none);
 }
 
 -- ---- a refusal
@@ -108,7 +115,7 @@ refuses v w x in_round cs now listed noted way e a answer found r lists cause = 
   commits = lists ∙ way.commits;
   posts = way.posts;
   at = way.at;
-  cause = cause v.base x cs e way.noted noted way.posted way.turns (ap (λ (ds : List Named). first_in ds v.base.rules 1 x) (sym way.clauses) ∙ found)
+  cause = cause v.base x cs e way.noted noted way.posted way.each (ap (λ (ds : List Named). first_in ds v.base.rules 1 x) (sym way.clauses) ∙ found)
       (subst (λ (f : Base). IsRefusal f e noted a) way.goes.base r);
 }
 

@@ -15,7 +15,7 @@ use Rattle.cp_hood.specs.Hoods.{HoodView}
 use Rattle.cp_hood.specs.Tries.{IsTry}
 use Rattle.cp_hood.specs.Commits.{IsHoodAfter, IsStopAfter, GetsTurn, MeetsTurn, post_after}
 use Rattle.cp_worker.specs.declared.answer.AtAnswer.{AtAnswer}
-use Rattle.cp_worker.specs.Visits.{hood_tries, turn_tries, clauses_after, AreTurns, HasCause, IsHeld, notes_of, IsVisit}
+use Rattle.cp_worker.specs.Visits.{hood_tries, turn_tries, clauses_after, AreFound, HasCause, IsHeld, notes_of, IsVisit}
 
 -- the turn was got with some journal, the entry was posted after it, the hood's cells followed, and the position is listed at the end
 pub record HasPosted (f : Base) (worker round : ℕ) (e : Entry) (old new : HoodView) (listed now : List ℕ) (noted : List Note) (posted : List (ℕ × Post)) : Type 0 where
@@ -36,7 +36,7 @@ IsRefusal f e noted NoMemory = Unit {0}
 -- such a refusal of the entry that the search gives at x, after these turns and posts, is the cause of the answer
 abbrev pub IsCauseOf : CommitAnswer → AtAnswer → Type 0
 IsCauseOf refusal answer =
-    (f : Base) (x : ℕ) (cs : List Named) (e : Entry) (turns last : List Note) (posted : List (ℕ × Post)) → AreTurns posted turns
+    (f : Base) (x : ℕ) (cs : List Named) (e : Entry) (turns last : List Note) (posted : List (ℕ × Post)) → AreFound f x cs posted turns
     → first_in (clauses_after x cs posted) f.rules 1 x ≡ Some e → IsRefusal f e last refusal → HasCause f x cs (turns ++ last) posted answer
 
 -- after so many tries that met a held lock this was the last one: there are few, and it met one only where none was left

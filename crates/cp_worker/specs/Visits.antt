@@ -3,14 +3,14 @@
 use Rattle.std.specs.Prelude.{◌≡◌, ℕ, ◌+◌, ◌<◌, Some, None, List, [], ◌∷◌, ◌++◌, map, length, IsTrue}
 use Rattle.std.specs.List.{flat_map, All}
 use Rattle.cp_logic.specs.declared.named.Named.{Named}
-use Rattle.cp_logic.specs.Entries.{Entry, is_at}
+use Rattle.cp_logic.specs.Entries.{Entry, is_at, numbered}
 use Rattle.cp_logic.specs.Legality.{first_in}
 use Rattle.cp_logic.specs.Journals.{Post}
 use Rattle.cp_logic.specs.Locality.{after}
 use Rattle.cp_yard.specs.Views.{Base, Note}
 use Rattle.cp_hood.specs.Hoods.{HoodView, centre_clauses}
 use Rattle.cp_hood.specs.Tries.{IsWhole, IsCut, IsTooWide}
-use Rattle.cp_hood.specs.Commits.{IsStopAfter, GetsTurn, MeetsTurn}
+use Rattle.cp_hood.specs.Commits.{left_by, IsStopAfter, GetsTurn, MeetsTurn}
 use Rattle.cp_worker.specs.declared.answer.AtAnswer.{AtAnswer}
 use Rattle.cp_worker.specs.declared.answer.AtAnswer.TheVariants.{Settled, Busy, Wide, TurnHeld, Stopped}
 
@@ -44,25 +44,34 @@ clauses_after x cs (q ∷ qs) = clauses_after x (after cs x q.1.entry) qs
 
 -- ---- under the locks
 
--- for each of the posts the turn was got, with the journal at whose end it stands
-abbrev pub AreTurns : List (ℕ × Post) → List Note → Type 0
-AreTurns [] noted = noted ≡ []
-AreTurns (q ∷ qs) noted = (h : List Post) × (first rest : List Note) × (noted ≡ first ++ rest) × GetsTurn turn_tries first h × (q.0 ≡ length h) × AreTurns qs rest
+-- the post stands at the end of the journal h, and its entry is what the search gives at x, which has these clauses, numbered from the next number on
+pub record IsFound (f : Base) (x : ℕ) (cs : List Named) (h : List Post) (q : ℕ × Post) : Type 0 where
+  pub position : q.0 ≡ length h
+  pub found : Entry
+  pub first : first_in cs f.rules 1 x ≡ Some found
+  pub entry : q.1.entry ≡ numbered (left_by f h).next found
 
--- Why the posts end at x, which had these clauses: the search gives nothing; or for the entry that it gives the turn was held at each try, or was
--- got, and the entry refused.
+-- each of the posts is what the search gives at x, which had these clauses, after the posts before it: for each the turn was got, with the journal
+-- at whose end it stands
+abbrev pub AreFound : Base → ℕ → List Named → List (ℕ × Post) → List Note → Type 0
+AreFound f x cs [] noted = noted ≡ []
+AreFound f x cs (q ∷ qs) noted =
+    (h : List Post) × (turn rest : List Note) × (noted ≡ turn ++ rest) × GetsTurn turn_tries turn h × IsFound f x cs h q × AreFound f x (after cs x q.1.entry) qs rest
+
+-- The posts at x, which had these clauses, are what the search gives, one after the other, and why they end: it gives nothing; or for the entry
+-- that it gives the turn was held at each try, or was got, and the entry refused.
 abbrev pub HasCause : Base → ℕ → List Named → List Note → List (ℕ × Post) → AtAnswer → Type 0
-HasCause f x cs noted posted (Settled commits) = AreTurns posted noted × (first_in (clauses_after x cs posted) f.rules 1 x ≡ None)
+HasCause f x cs noted posted (Settled commits) = AreFound f x cs posted noted × (first_in (clauses_after x cs posted) f.rules 1 x ≡ None)
 HasCause f x cs noted posted (Busy var by) = ⊥
 HasCause f x cs noted posted (Wide count) = ⊥
 HasCause f x cs noted posted (TurnHeld by commits) =
-    (e : Entry) × (turns last : List Note) × (noted ≡ turns ++ last) × AreTurns posted turns × MeetsTurn turn_tries last by
+    (e : Entry) × (turns last : List Note) × (noted ≡ turns ++ last) × AreFound f x cs posted turns × MeetsTurn turn_tries last by
     × (first_in (clauses_after x cs posted) f.rules 1 x ≡ Some e)
 HasCause f x cs noted posted (Stopped stop commits) =
-    (e : Entry) × (h : List Post) × (turns last : List Note) × (noted ≡ turns ++ last) × AreTurns posted turns × GetsTurn turn_tries last h
+    (e : Entry) × (h : List Post) × (turns last : List Note) × (noted ≡ turns ++ last) × AreFound f x cs posted turns × GetsTurn turn_tries last h
     × (first_in (clauses_after x cs posted) f.rules 1 x ≡ Some e) × IsStopAfter f h e stop
 
--- the posts under the locks are the worker's, at x, and the answer lists them and says why they end
+-- the posts under the locks are the worker's, at x, each what the search gives after those before it, and the answer lists them and says why they end
 pub record AreCommits (f : Base) (worker x round : ℕ) (cs : List Named) (noted : List Note) (posted : List (ℕ × Post)) (answer : AtAnswer) : Type 0 where
   pub commits : commits_of answer ≡ positions posted
   pub posts : All (IsPostOf worker round) posted

@@ -45,6 +45,7 @@ commits-preserved c =
       centre = k.3.hood.centre ∙ i.centre;
       going = goes_on c.args.seat.now.view c.commits.seat.view c.commit_listed.new.seat.view c.args.hood.now.centre c.args.round (centre_clauses c.args.hood.now) c.args.yard.now.base.rules
           c.commits.hood c.commit_listed.new.hood (entry_of c.in-Some.entry) c.commits.commits.items c.commit_listed.new.commits.items k.0 k.1 i.centre
+          (sym (ap (λ (f : Base). f.rules) c.requires.base))
           (found-at c.commits.hood c.centre.result.now c.args.rules.now c.args.yard.now.base.rules c.in_ok-entry.field-0 c.centre.ensures.variable c.centre.ensures.clauses c.requires.rules c.in_ok-entry.ensures.found
           ∙ ap (option_map entry_of) c.in-Some.is)
           i.going k.2 k.3;
