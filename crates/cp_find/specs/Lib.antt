@@ -3,4 +3,3 @@ pub mod Chosen
 pub mod Finds
 pub mod Laws
 pub mod Past
-pub mod Signatures

@@ -15,7 +15,6 @@ mod lookup;
 mod others;
 mod pairs;
 mod reached;
-mod signatures;
 mod strengthening;
 mod subsumption;
 mod tautology;
@@ -23,9 +22,9 @@ mod tautology;
 mod tests;
 mod wanted;
 
+pub use cp_logic::signature;
 pub use others::Others;
 pub use reached::Reached;
-pub use signatures::signature;
 pub use strengthening::{first_strengthened, next_strengthened};
 pub use subsumption::{first_subsumed, next_subsumed};
 pub use tautology::{first_taut, next_taut};

@@ -2,17 +2,13 @@
 ghost use Rattle.std.specs.Prelude.{◌≡◌};
 ghost use Rattle.std.specs.List.{find};
 ghost use Rattle.std.specs.Option.{option_map};
-ghost use Rattle.cp_logic.specs.Clauses.{contains, is_subset, IsAscending};
+ghost use Rattle.cp_logic.specs.Clauses.{IsAscending};
 ghost use Rattle.cp_logic.specs.Items.{named_item};
 ghost use Rattle.cp_logic.specs.declared.named.Named.{Named};
 ghost use Rattle.cp_find.specs.Finds.{subsumes};
 
-use crate::signatures::signature;
-use cp_logic::{Clause, Lit, is_subset};
+use cp_logic::{Clause, Lit, is_subset, signature};
 use std::marker::Model;
-
-// Among so many times as many literals, a search for each of the wanted ones costs more than a pass.
-const MOST_TIMES_LONGER: usize = 4;
 
 /// Literals that are looked for in clauses of other numbers than the one given, seen as the numbered clause of them.
 #[derive(Drop)]
@@ -26,7 +22,7 @@ impl<'a> Model for Wanted<'a> {
     ghost use Rattle.std.specs.Prelude.{◌≡◌};
     ghost use Rattle.cp_logic.specs.Clauses.{IsAscending};
     ghost use Rattle.cp_logic.specs.declared.named.Named.{Named};
-    ghost use Rattle.cp_find.specs.Signatures.{signature};
+    ghost use Rattle.cp_logic.specs.Signatures.{signature};
 
     ghost Value = { Named };
 
@@ -61,14 +57,14 @@ impl<'a> Wanted<'a> {
         if self.bits & other.bits != self.bits || self.number == other.number {
             return false;
         }
-        is_within(self.lits, other.clause.lits())
+        is_subset(self.lits, other.clause.lits())
     }
 
     /// The same of a clause without a signature.
     pub(crate) fn is_in(&self, number: u64, clause: &Clause) -> bool
         ensures { result ≡ subsumes self.now (record { number = number; clause = clause.now }) }
     {
-        self.number != number && is_within(self.lits, clause.lits())
+        self.number != number && is_subset(self.lits, clause.lits())
     }
 }
 
@@ -83,7 +79,7 @@ pub(crate) struct Signed<'a> {
 impl<'a> Model for Signed<'a> {
     ghost use Rattle.std.specs.Prelude.{◌≡◌};
     ghost use Rattle.cp_logic.specs.declared.named.Named.{Named};
-    ghost use Rattle.cp_find.specs.Signatures.{signature};
+    ghost use Rattle.cp_logic.specs.Signatures.{signature};
 
     ghost Value = { Named };
 
@@ -134,39 +130,4 @@ pub(crate) fn first_met<'a>(
         }
     }
     None
-}
-
-// Whether each of the wanted literals is among the others. Where these are many more, each is searched on its own: a pass would
-// read most of a long clause to find that a short one is not in it.
-fn is_within(wanted: &[Lit], others: &[Lit]) -> bool
-    requires ascending { IsAscending wanted.now }
-    requires others_ascending { IsAscending others.now }
-    ensures { result ≡ is_subset wanted.now others.now }
-{
-    if others.len() / MOST_TIMES_LONGER > wanted.len() {
-        are_found(wanted, others)
-    } else {
-        is_subset(wanted, others)
-    }
-}
-
-// Whether a search among the others finds each of the literals.
-fn are_found(wanted: &[Lit], others: &[Lit]) -> bool
-    requires { IsAscending others.now }
-    ensures { result ≡ is_subset wanted.now others.now }
-{
-    for lit in wanted {
-        if !is_found(*lit, others) {
-            return false;
-        }
-    }
-    true
-}
-
-// Whether the literal is one of the others.
-fn is_found(lit: Lit, others: &[Lit]) -> bool
-    requires { IsAscending others.now }
-    ensures { result ≡ contains others.now lit }
-{
-    others.binary_search(&lit).is_ok()
 }

@@ -1,8 +1,8 @@
 use Rattle.std.proofs.Common.{sym, subst}
 use Rattle.std.specs.Prelude.{◌≡◌, bit_and}
-use Rattle.cp_find.specs.Signatures.{signature}
-use Rattle.cp_find.proofs.Bits.{signature-step, signature-whole, signature-subset}
-use Rattle.cp_find.proofs.signatures.signature.Goals as goal
+use Rattle.cp_logic.specs.Signatures.{signature}
+use Rattle.cp_logic.proofs.SignatureFacts.{signature-step, signature-whole, signature-subset}
+use Rattle.cp_logic.proofs.signatures.signature.Goals as goal
 
 pub loop-lit-preserved : goal.loop-lit-preserved
 loop-lit-preserved c =

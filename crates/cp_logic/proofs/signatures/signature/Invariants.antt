@@ -1,6 +1,6 @@
 use Rattle.std.proofs.Common.{◌≡◌, bit_or, drop}
-use Rattle.cp_find.specs.Signatures.{signature}
-use Rattle.cp_find.proofs.signatures.signature.Given as goal
+use Rattle.cp_logic.specs.Signatures.{signature}
+use Rattle.cp_logic.proofs.signatures.signature.Given as goal
 
 -- with the bits of the literals that are left it is the whole signature
 abbrev pub invariant-loop-lit : goal.invariant-loop-lit
