@@ -3,7 +3,7 @@ pub mod Scans
 pub mod Firsts
 pub mod Turned
 pub mod Searches
-pub mod Candidates
 pub mod Least
 pub mod Searched
+pub mod Lookups
 pub mod Past

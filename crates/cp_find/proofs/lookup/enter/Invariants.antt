@@ -1,11 +1,11 @@
-use Rattle.std.proofs.Common.{◌≡◌, ◌<◌, ℕ, List, ◌++◌, length, take, slice_index_or}
-use Rattle.cp_logic.specs.declared.named.Named.{Named}
-use Rattle.cp_find.specs.Buckets.{entries_of}
+use Rattle.std.proofs.Common.{◌≡◌, length, take}
+use Rattle.cp_find.specs.Lookups.{AreListed, Keeps}
 use Rattle.cp_find.proofs.lookup.enter.Given as goal
 
--- each bucket has the entries for the literals so far
+-- the clause is in the buckets of the literals so far
 abbrev pub invariant-loop-lit : goal.invariant-loop-lit
 invariant-loop-lit l = record {
-  len : length l.buckets.items ≡ l.count;
-  entered : (k : ℕ) (d : List Named) → k < l.count → slice_index_or l.buckets.items k d ≡ slice_index_or l.initial.buckets.items k d ++ entries_of l.count k l.clause (take l.lit-index l.clause.clause);
+  len : length l.buckets.items ≡ length l.initial.buckets.items;
+  kept : Keeps l.initial.buckets.items l.buckets.items;
+  entered : AreListed l.count l.buckets.items (take l.lit-index l.clause) l.entry;
 }
