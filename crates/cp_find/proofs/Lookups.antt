@@ -189,6 +189,10 @@ pub put-has : (old : List (List Signed)) (k m : ℕ) (after : List Signed) (c : 
     → (d : List Signed) → Contains (slice_index_or (slice_set old k after) m d) c
 put-has old k m after c w e i d = subst (λ (z : List Signed). Contains z c) (sym (ap (λ n. slice_index_or (slice_set old k after) n d) (sym e) ∙ get_or-set_same old k after d w)) i
 
+-- where there is one bucket, it is that of each literal
+pub first_alone : (l : ℕ) → 0 ≡ l % 1
+first_alone l = let less : l % 1 < 1 = mod_below l 1 (let one : 0 < 1 = omega arith in one) in omega (arith, less)
+
 -- one literal more is taken
 pub take-item : (xs : List ℕ) (i x : ℕ) → i < length xs → x ≡ get_or xs i x → take (i + 1) xs ≡ take i xs ++ x ∷ []
 take-item xs i x h e = take_more xs i x h ∙ ap (λ y. take i xs ++ y ∷ []) (sym e)

@@ -29,12 +29,11 @@ const PER_BUCKET: usize = 8;
 // A bucket has room for so many clauses before it grows.
 const ROOM: usize = 12;
 
-// Where there are at most so many times as many clauses as literals in one of them, all pairs are compared by their signatures, which
-// costs less there than to fill buckets.
-const MOST_TIMES: usize = 8;
+// Of so few clauses the signatures are compared all, in one bucket, which costs less than to fill buckets and to choose among them.
+const FEW: usize = 64;
 
-// Of so few clauses all pairs are compared literal by literal.
-const FEW: usize = 4;
+// The same is so where there are at most so many times as many clauses as literals in one of them.
+const MOST_TIMES: usize = 16;
 
 /// Buckets of a cell's clauses, of which the first `count` are in use. With none the cell itself is looked through.
 #[derive(Drop)]
@@ -72,12 +71,12 @@ impl Lookup {
         self.count = 0;
     }
 
-    /// Looks the cell's clauses up, unless that is done or they are few. The error comes only for want of memory.
+    /// Looks the cell's clauses up, unless that is done or there is no pair of them. The error comes only for want of memory.
     pub(crate) fn make_ready(&mut self, alloc: Global, cell: &Cell) -> Result<(), AllocError>
         requires { Covers cell.now.clauses self.old }
         ensures { Covers cell.now.clauses self.new }
     {
-        if self.count > 0 || cell.len() <= FEW {
+        if self.count > 0 || cell.len() <= 1 {
             return Ok(());
         }
         self.fill(alloc, cell)
@@ -87,7 +86,7 @@ impl Lookup {
         ensures { Covers cell.now.clauses self.new }
     {
         self.count = 0;
-        let count = bucket_count(cell.len(), literal_count(cell));
+        let count = bucket_count(cell);
         fill_buckets(alloc, &mut self.buckets, count, cell)?;
         self.count = count;
         Ok(())
@@ -120,6 +119,9 @@ impl Lookup {
             return None;
         }
         let mut shortest = self.bucket(*first);
+        if self.count == 1 {
+            return Some(shortest);
+        }
         for lit in others {
             let bucket = self.bucket(*lit);
             if bucket.len() < shortest.len() {
@@ -195,11 +197,16 @@ fn place(lit: Lit, count: usize) -> usize
     lit.code() as usize % count
 }
 
-// How many buckets to fill for so many clauses of so many literals together.
-fn bucket_count(clauses: usize, literals: usize) -> usize
+// How many buckets to fill for the cell's clauses.
+fn bucket_count(cell: &Cell) -> usize
     ensures { 0 < result }
 {
-    if clauses / MOST_TIMES <= literals / clauses.max(1) {
+    let clauses = cell.len();
+    if clauses <= FEW {
+        return 1;
+    }
+    let literals = literal_count(cell);
+    if clauses / MOST_TIMES <= literals / clauses {
         return 1;
     }
     (literals / PER_BUCKET).max(1)
@@ -263,6 +270,37 @@ fn enter(
     ensures kept { OnOk result (Keeps buckets.old.items buckets.new.items) }
     ensures entered { OnOk result (AreListed count buckets.new.items clause.now (signed (record { number = number; clause = clause.now }))) }
 {
+    if count == 1 {
+        return enter_once(buckets, number, clause);
+    }
+    enter_each(buckets, count, number, clause)
+}
+
+// Enters the clause into the first bucket, which is that of each literal where it is alone.
+fn enter_once(buckets: &mut Vec<Bucket>, number: u64, clause: &Clause) -> Result<(), AllocError>
+    requires { 1 ≤ length buckets.old.items }
+    ensures len { OnOk result (length buckets.new.items ≡ length buckets.old.items) }
+    ensures kept { OnOk result (Keeps buckets.old.items buckets.new.items) }
+    ensures entered { OnOk result (AreListed 1 buckets.new.items clause.now (signed (record { number = number; clause = clause.now }))) }
+{
+    let entry = Signed::new(number, clause);
+    buckets[0].put(entry)?;
+    Ok(())
+}
+
+// Enters the clause into the bucket of each of its literals, one by one.
+fn enter_each(
+    buckets: &mut Vec<Bucket>,
+    count: usize,
+    number: u64,
+    clause: &Clause,
+) -> Result<(), AllocError>
+    requires some { 0 < count }
+    requires within { count ≤ length buckets.old.items }
+    ensures len { OnOk result (length buckets.new.items ≡ length buckets.old.items) }
+    ensures kept { OnOk result (Keeps buckets.old.items buckets.new.items) }
+    ensures entered { OnOk result (AreListed count buckets.new.items clause.now (signed (record { number = number; clause = clause.now }))) }
+{
     let entry = Signed::new(number, clause);
     for lit in clause.lits() {
         buckets[place(*lit, count)].put(entry)?;
@@ -306,6 +344,10 @@ fn better<'a>(
 ) -> Option<(u64, &'a Clause)>
     ensures { (seen : List Signed) → IsBest wanted.now cell.now.clauses from seen (option_map named_item best.entry) → IsBest wanted.now cell.now.clauses from (seen ++ candidate ∷ []) (option_map named_item result) }
 {
+    // The signature first: it passes over nearly all.
+    if !wanted.may_be_in(candidate) {
+        return best;
+    }
     if candidate.number < from || is_up_to(best, candidate.number) {
         return best;
     }
@@ -330,9 +372,6 @@ fn met<'a>(cell: &'a Cell, candidate: Signed, wanted: &Wanted<'_>) -> Option<&'a
     ensures some { IfSome result (λ clause. IsMet wanted.now cell.now.clauses (record { number = candidate.number; clause = clause.now })) }
     ensures none { IfNone result ((c : Named) → Contains cell.now.clauses c → signed c ≡ candidate → IsFalse (subsumes wanted.now c)) }
 {
-    if !wanted.may_be_in(candidate) {
-        return None;
-    }
     let clause = standing(cell, candidate.number)?;
     if wanted.is_in(candidate.number, clause) {
         Some(clause)

@@ -5,6 +5,13 @@ use Rattle.cp_find.proofs.Lookups.{serves-from}
 use Rattle.cp_find.proofs.lookup.Lookup.candidates.Goals as goal
 use Rattle.cp_find.proofs.lookup.Lookup.candidates.Goals.{then-bucket-shortest, else-bucket-shortest}
 
+pub returns-then-self-eq1 : goal.returns-then-self-eq1
+returns-then-self-eq1 c =
+    let lits : List ℕ = c.args.wanted.now.clause in
+    serves-from c.args.wanted.now c.args.self.now c.bucket-shortest.result.now c.in_ok-first.first.now
+    (subst (λ (z : List ℕ). Contains z c.in_ok-first.first.now) (sym c.in_ok-first.ensures.cases.0 ∙ c.lits.ensures) (in_here c.in_ok-first.first.now c.in_ok-first.first.now c.in_ok-first.others.now refl))
+    c.bucket-shortest.ensures
+
 pub loop-lit-init : goal.loop-lit-init
 loop-lit-init c =
     let lits : List ℕ = c.args.wanted.now.clause in

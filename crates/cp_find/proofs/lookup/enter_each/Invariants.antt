@@ -1,6 +1,6 @@
 use Rattle.std.proofs.Common.{◌≡◌, length, take}
 use Rattle.cp_find.specs.Lookups.{AreListed, Keeps}
-use Rattle.cp_find.proofs.lookup.enter.Given as goal
+use Rattle.cp_find.proofs.lookup.enter_each.Given as goal
 
 -- the clause is in the buckets of the literals so far
 abbrev pub invariant-loop-lit : goal.invariant-loop-lit
