@@ -19,7 +19,7 @@ import time
 
 TOP = os.path.dirname(os.path.dirname(os.path.abspath(__file__)))
 RT = r'''#!PYTHON
-import fcntl, hashlib, os, re, sys, time
+import fcntl, hashlib, os, sys, time
 def tell(what):
     with open(os.environ["EVENTS"], "a") as events:
         events.write(f"{time.monotonic()} {what} {crate} {os.getpid()}\n")
@@ -40,6 +40,10 @@ for it in held:
 lacking = [it for it in below(crate) if not is_built(it)]
 if lacking or [it for it in uses if not os.path.isdir(f"../{it}/src")]:
     sys.exit(f"rt: lacking {lacking}")
+texts = [open(f"../{it}/src/lib.rt").read() for it in [*below(crate), crate]]
+stamp = hashlib.sha256(repr(texts).encode()).hexdigest()
+if sys.argv[1] == "lib" and is_built(crate) and open("out/rlib/stamp").read() == stamp:
+    sys.exit(0)
 tell("begin-again" if os.path.isfile("out/incremental/part") else "begin")
 os.makedirs("out/incremental", exist_ok=True)
 open("out/incremental/part", "w").close()
@@ -51,7 +55,8 @@ if os.environ.get("FAILING") == crate:
     sys.exit(f"fn {crate}::second: not proved")
 if sys.argv[1] == "lib":
     os.makedirs("out/rlib", exist_ok=True)
-    open("out/rlib/stamp", "w").close()
+    with open("out/rlib/stamp", "w") as file:
+        file.write(stamp)
     tell("end")
     sys.exit(0)
 with open("out/copro", "w") as program:

@@ -5,7 +5,8 @@
     proofs.py PROGRAM --list       prints the list, for tests/proofs.txt
 
 Without workers the proof of a formula is fixed by the definitions, so whatever makes the program faster leaves it the same to the byte.
-The list was made with a program whose proofs on these formulas are those of a plain second program. It changes only with the rules.
+So the list changes only with the rules. Its rows without options of size M are also those of a second program, and rows with options of
+size S those of a reference model.
 """
 import hashlib
 import os

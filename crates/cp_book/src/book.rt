@@ -3,7 +3,7 @@
 //! A post takes two steps. `prepare` takes all memory that the post needs, and `post` then takes none, so a refusal for
 //! want of memory comes before anything changes. `post_legal` is the post of one who knows already that the entry is legal.
 //! The first formula is kept only for contracts.
-ghost use Rattle.std.specs.Prelude.{◌≡◌, ◌≤◌, [], ℕ, IsTrue, IsFalse, OnOk, OnErr, IfOk, IfErr, IsOk, Some, None, Err, length};
+ghost use Rattle.std.specs.Prelude.{◌≡◌, ◌≤◌, [], ℕ, IsTrue, IsFalse, OnOk, OnErr, IfOk, IfErr, Some, None, Err, length};
 ghost use Rattle.cp_logic.specs.Formulas.{IsFormula};
 ghost use Rattle.cp_logic.specs.Legality.{is_legal, is_legal_in};
 ghost use Rattle.cp_logic.specs.Entries.{numbered, is_look};
@@ -29,9 +29,15 @@ const NUMBER_LIMIT: u64 = 1 << 40;
 
 /// A first formula, the rules of a run, and a journal that is legal from that formula.
 ///
-/// Contracts see besides the entry for which the book is prepared, if any.
+/// Contracts see besides the entry for which the book is prepared, if any. What it keeps stands behind one pointer: a book goes from hand
+/// to hand with each turn, through the same slots as the cells of variables, and these would all be as wide as a book.
 #[derive(Drop)]
 pub struct Book {
+    parts: Box<Parts>,
+}
+
+#[derive(Drop)]
+struct Parts {
     alloc: Global,
     first: Snapshot<Formula>,
     rules: Rules,
@@ -51,32 +57,20 @@ impl Model for Book {
 
     ghost Value = { BookView };
 
-    ghost use Rattle.std.specs.Prelude.{ℕ};
-    ghost use Rattle.std.specs.Option.{option_map};
-    ghost use Rattle.cp_logic.specs.Pairs.{pairs_of};
-    ghost use Rattle.cp_logic.specs.Views.{entry_of};
-    ghost use Rattle.cp_book.specs.Kept.{IsLedger, IsReady};
+    ghost use Rattle.cp_book.specs.Parts.{view_of, HasLedger, HasRoom};
 
-    ghost view = { λ b. record {
-      first = b.first.value.formula;
-      rules = b.rules;
-      posts = b.journal.items;
-      prepared = option_map (λ s. entry_of s.value) b.prepared;
-    } };
+    ghost view = { λ b. view_of b.parts.value };
 
-    ghost invariant = { λ b.
-        IsLedger b.first.value.formula b.rules b.journal.items b.formula.formula (pairs_of b.stack.pairs) b.stack.vars b.commits b.empty
-        × IsReady (option_map (λ s. entry_of s.value) b.prepared) b.journal.spare b.formula.spare b.stack.pairs.spare b.seconds.items };
+    ghost invariant = { λ b. HasLedger b.parts.value × HasRoom b.parts.value };
 }
 
 impl Book {
-    /// A book with no posts over this formula, whose clauses are the current ones. It takes no memory, so it is never refused.
+    /// A book with no posts over this formula, whose clauses are the current ones. The error comes only if memory is out.
     pub fn new(alloc: Global, formula: Formula, rules: Rules) -> Result<Book, AllocError>
-        ensures made { IsOk result }
-        ensures book { IfOk result (λ b. b ≡ record { first = formula.formula; rules = rules; posts = []; prepared = None }) }
+        ensures { IfOk result (λ b. b ≡ record { first = formula.formula; rules = rules; posts = []; prepared = None }) }
     {
         let vars = formula.vars();
-        Ok(Book {
+        let parts = Parts {
             alloc,
             first: Snapshot::of(&formula),
             rules,
@@ -87,6 +81,9 @@ impl Book {
             commits: 0,
             prepared: None,
             seconds: Vec::new(alloc),
+        };
+        Ok(Book {
+            parts: Box::new(alloc, parts)?,
         })
     }
 
@@ -98,13 +95,13 @@ impl Book {
         ensures ok { OnOk result (self.new.prepared ≡ Some (entry_of entry.now)) }
         ensures err { OnErr result (self.new.prepared ≡ None) }
     {
-        self.prepared = None;
-        self.journal.reserve(1)?;
-        self.formula.reserve(entry.new_count() as usize)?;
+        self.parts.prepared = None;
+        self.parts.journal.reserve(1)?;
+        self.parts.formula.reserve(entry.new_count() as usize)?;
         let pairs = weakened_count(entry).ok_or(AllocError)?;
-        self.stack.reserve(pairs)?;
-        self.seconds = seconds_of_added(self.alloc, entry)?;
-        self.prepared = Some(Snapshot::of(entry));
+        self.parts.stack.reserve(pairs)?;
+        self.parts.seconds = seconds_of_added(self.parts.alloc, entry)?;
+        self.parts.prepared = Some(Snapshot::of(entry));
         Ok(())
     }
 
@@ -146,21 +143,21 @@ impl Book {
     pub fn next(&self) -> u64
         ensures { result ≡ (current self.now).next }
     {
-        self.formula.next()
+        self.parts.formula.next()
     }
 
     /// The number of posts that aren't Look.
     pub fn commits(&self) -> u64
         ensures { result ≡ commits self.now.posts }
     {
-        self.commits
+        self.parts.commits
     }
 
     /// The posts.
     pub fn journal(&self) -> &Journal
         ensures { result.now.items ≡ self.now.posts }
     {
-        &self.journal
+        &self.parts.journal
     }
 
     /// The pairs that the posts lead to, over the variables of the first formula.
@@ -168,21 +165,21 @@ impl Book {
         ensures pairs { pairs_of result.now.pairs ≡ current_pairs self.now }
         ensures variables { result.now.vars ≡ self.now.first.variables }
     {
-        &self.stack
+        &self.parts.stack
     }
 
     /// The rules of the run.
     pub fn rules(&self) -> &Rules
         ensures { result.now ≡ self.now.rules }
     {
-        &self.rules
+        &self.parts.rules
     }
 
     /// The current clauses: those that the posts leave of the first formula, and those that they added.
     pub fn clauses(&self) -> &Formula
         ensures { result.now.formula ≡ current self.now }
     {
-        &self.formula
+        &self.parts.formula
     }
 
     /// Why no more is posted, whatever the entry: `Refuted` where a current clause is empty, else `Spent` where the commits
@@ -206,7 +203,7 @@ impl Book {
         ensures journal { IsLegalJournal self.now.first self.now.rules self.now.posts }
     {
         // That what the posts lead to is a formula is a clause of this call.
-        let _ = self.formula.vars();
+        let _ = self.parts.formula.vars();
     }
 
     /// The current clauses, the journal and the stack, with no copy made.
@@ -216,21 +213,22 @@ impl Book {
         ensures pairs { pairs_of result.2.pairs ≡ current_pairs self }
         ensures variables { result.2.vars ≡ self.first.variables }
     {
-        (self.formula, self.journal, self.stack)
+        let parts = Box::into_inner(self.parts);
+        (parts.formula, parts.journal, parts.stack)
     }
 
     /// The least number of an empty clause among the current ones, or `None` where no clause is empty.
     pub fn least_empty(&self) -> Option<u64>
         ensures { result ≡ least_empty (current self.now).clauses }
     {
-        self.empty
+        self.parts.empty
     }
 
     // Whether the commits number the budget.
     fn is_spent(&self) -> bool
         ensures { result ≡ is_spent self.now.rules (commits self.now.posts) }
     {
-        self.rules.budget != 0 && self.commits == self.rules.budget
+        self.parts.rules.budget != 0 && self.parts.commits == self.parts.rules.budget
     }
 
     /// Whether the entry's new clauses would pass the last clause number, so that `post` refuses it by `Numbers` where the book
@@ -238,7 +236,7 @@ impl Book {
     pub fn passes_numbers(&self, entry: &Entry) -> bool
         ensures { result ≡ passes_numbers (current self.now) (entry_of entry.now) }
     {
-        self.formula.next().saturating_add(entry.new_count()) > NUMBER_LIMIT
+        self.parts.formula.next().saturating_add(entry.new_count()) > NUMBER_LIMIT
     }
 
     // Hands the entry on, unless the book is stopped for any entry or for this one's numbers.
@@ -269,7 +267,7 @@ impl Book {
         requires open_still { least_empty (current self.now).clauses ≡ None }
         ensures { result ≡ is_legal (current self.now) self.now.rules (entry_of entry.now) }
     {
-        is_legal(&self.formula, &self.rules, entry)
+        is_legal(&self.parts.formula, &self.parts.rules, entry)
     }
 
     // Appends the post of an entry that is legal, and changes the clauses and the stack.
@@ -283,18 +281,19 @@ impl Book {
         ensures book { self.new ≡ with_post self.old worker round (entry_of entry) }
         ensures position { result ≡ length self.old.posts }
     {
-        let entry = entry.numbered(self.formula.next());
-        self.empty = empty_added(&entry);
-        let seconds = mem::replace(&mut self.seconds, Vec::new(self.alloc));
-        apply(&mut self.formula, &mut self.stack, &entry, seconds);
-        self.prepared = None;
-        let position = self.journal.push_reserved(Post {
+        let parts: &mut Parts = &mut self.parts;
+        let entry = entry.numbered(parts.formula.next());
+        parts.empty = empty_added(&entry);
+        let seconds = mem::replace(&mut parts.seconds, Vec::new(parts.alloc));
+        apply(&mut parts.formula, &mut parts.stack, &entry, seconds);
+        parts.prepared = None;
+        let position = parts.journal.push_reserved(Post {
             worker,
             round,
             entry,
         });
-        let _len = self.journal.len();
-        self.commits += 1;
+        let _len = parts.journal.len();
+        parts.commits += 1;
         position
     }
 }

@@ -3,6 +3,6 @@ pub mod Scans
 pub mod Firsts
 pub mod Turned
 pub mod Searches
-pub mod Candidates
 pub mod Least
+pub mod Lookups
 pub mod Past

@@ -21,6 +21,7 @@ use cp_stack::print_stack;
 use cp_summary::{Sizes, print_summary};
 use cp_sweep::Swept;
 use cp_words::SimplifyOptions;
+use std::mem::forget;
 
 /// Writes the texts of the result, and says how the run ended.
 pub(crate) fn finish<D: Desk>(
@@ -46,8 +47,12 @@ pub(crate) fn finish<D: Desk>(
             journal: swept.journal,
         });
     }
+    let status = status_of_formula(&swept.formula);
+    // The run ends here, and with the process all memory: to give back the clauses one by one would take a tenth of a run.
+    forget(swept.formula);
+    forget(swept.stack);
     Outcome::Done {
-        status: status_of_formula(&swept.formula),
+        status,
         journal: swept.journal,
         shifts,
         kept,

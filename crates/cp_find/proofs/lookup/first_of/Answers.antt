@@ -3,7 +3,7 @@ use Rattle.std.specs.List.{find}
 use Rattle.cp_logic.specs.declared.named.Named.{Named}
 use Rattle.cp_logic.proofs.ListFacts.{find-here}
 use Rattle.cp_find.specs.Finds.{subsumes}
-use Rattle.cp_find.proofs.others.first_of.Goals as goal
+use Rattle.cp_find.proofs.lookup.first_of.Goals as goal
 
 pub returns-then-is_in : goal.returns-then-is_in
 returns-then-is_in c =
