@@ -1,4 +1,3 @@
-pub mod Bits
 pub mod Scans
 pub mod Firsts
 pub mod Turned

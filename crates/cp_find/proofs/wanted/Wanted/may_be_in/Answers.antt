@@ -6,7 +6,7 @@ use Rattle.cp_logic.specs.Clauses.{is_subset}
 use Rattle.cp_find.specs.declared.wanted.Signed.{Signed}
 use Rattle.cp_find.specs.Finds.{subsumes}
 use Rattle.cp_logic.specs.Signatures.{signature}
-use Rattle.cp_find.proofs.Bits.{signature-subset}
+use Rattle.cp_logic.proofs.SignatureFacts.{signature-subset}
 use Rattle.cp_find.proofs.wanted.Wanted.may_be_in.Goals as goal
 
 pub returns-then-self-other : goal.returns-then-self-other
