@@ -30,10 +30,10 @@ const PER_BUCKET: usize = 8;
 const ROOM: usize = 12;
 
 // Of so few clauses the signatures are compared all, in one bucket, which costs less than to fill buckets and to choose among them.
-const FEW: usize = 64;
+const FEW: usize = 16;
 
 // The same is so where there are at most so many times as many clauses as literals in one of them.
-const MOST_TIMES: usize = 16;
+const MOST_TIMES: usize = 8;
 
 /// Buckets of a cell's clauses, of which the first `count` are in use. With none the cell itself is looked through.
 #[derive(Drop)]
@@ -329,7 +329,10 @@ fn best_of<'a>(
 {
     let mut best = None;
     for candidate in candidates {
-        best = better(cell, *candidate, from, wanted, best);
+        // The signature passes over nearly all.
+        if wanted.may_be_in(*candidate) {
+            best = better(cell, *candidate, from, wanted, best);
+        }
     }
     best
 }
@@ -344,10 +347,6 @@ fn better<'a>(
 ) -> Option<(u64, &'a Clause)>
     ensures { (seen : List Signed) → IsBest wanted.now cell.now.clauses from seen (option_map named_item best.entry) → IsBest wanted.now cell.now.clauses from (seen ++ candidate ∷ []) (option_map named_item result) }
 {
-    // The signature first: it passes over nearly all.
-    if !wanted.may_be_in(candidate) {
-        return best;
-    }
     if candidate.number < from || is_up_to(best, candidate.number) {
         return best;
     }
