@@ -2,7 +2,7 @@
 //!
 //! Input may have them, and so may what strengthening leaves of them. MiniSat (`Solver::addClause_`) and CaDiCaL drop them where a
 //! clause is added. Here the clause goes by an entry of its own, so that the journal and the proof show it, and it is an entry at
-//! each of its variables: the search at any of them finds it.
+//! each of its variables: the search at any of them finds it. A cell knows its tautologies, so mostly there is nothing to look at.
 ghost use Rattle.std.specs.Prelude.{◌≡◌, ◌≤◌, ◌^◌, IfOk};
 ghost use Rattle.std.specs.Option.{option_map};
 ghost use Rattle.cp_logic.specs.Legality.{tauts, first_of_kind};
@@ -36,13 +36,11 @@ pub fn next_taut(cell: &Cell, reached: &mut Reached) -> Result<Option<Entry>, Al
     let Some(from) = reached.tautology else {
         return Ok(None);
     };
-    for (number, clause) in cell.iter_from(from) {
-        if clause.is_tautology() {
-            let gone = named(number, clause)?;
-            reached.tautology = Some(number);
-            return Ok(Some(Entry::Taut { gone }));
-        }
-    }
-    reached.tautology = None;
-    Ok(None)
+    let Some((number, clause)) = cell.first_tautology_from(from) else {
+        reached.tautology = None;
+        return Ok(None);
+    };
+    let gone = named(number, clause)?;
+    reached.tautology = Some(number);
+    Ok(Some(Entry::Taut { gone }))
 }

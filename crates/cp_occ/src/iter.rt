@@ -79,7 +79,7 @@ impl<'a> LiteralIter<'a> {
     pub fn gathered(self, alloc: Global) -> Result<Vec<Lent<'a>>, AllocError>
         ensures { IfOk result (λ list. list.items ≡ self.entry) }
     {
-        let mut list = Vec::new(alloc);
+        let mut list = Vec::with_capacity(alloc, self.left.len())?;
         for (number, clause) in self {
             list.push(Lent::new(number, clause))?;
         }
