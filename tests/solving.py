@@ -177,7 +177,7 @@ def soon(is_so):
 def words_faults(program):
     """The faults of the stated cases, each with its words."""
     rows = list(STATED)
-    rows += [(LEFT, "exit 1", "--proof none F " + words, 10, "") for words in
+    rows += [(text, "exit 1", "--proof none F " + words, status, "") for text, status in ((LEFT, 10), (pigeonholes(5), 20)) for words in
              ("minisat", "z3", "cadical", "-- cadical --sat -q", "-- minisat -verb=0", "-- z3 -dimacs {}")
              if shutil.which(words.replace("-- ", "").split()[0])]
     faults = [("%s with the solver %r" % (row[2], row[1]), stated_fault(program, row)) for row in rows]

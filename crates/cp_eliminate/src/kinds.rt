@@ -14,7 +14,7 @@ ghost use Rattle.cp_eliminate.specs.Eliminating.{elimination_within};
 
 use crate::elimination::try_eliminate;
 use cp_blocked::first_blocked;
-use cp_find::{Others, Reached, next_strengthened, next_subsumed, next_taut};
+use cp_find::{Reached, next_strengthened, next_subsumed, next_taut};
 use cp_logic::{Entry, Rules};
 use cp_occ::Cell;
 use std::alloc::{AllocError, Global};
@@ -62,7 +62,7 @@ fn chosen_taut(
     next_taut(cell, reached)
 }
 
-// A subsumption, or else a strengthening. Both look at the same pairs of clauses, so the cell is made ready once.
+// A subsumption, or else a strengthening. Both look at the same pairs of clauses, by the lookup that `reached` keeps.
 fn chosen_of_two(
     alloc: Global,
     cell: &Cell,
@@ -77,42 +77,36 @@ fn chosen_of_two(
         (where_chosen rules.now.choice.x (first_of_kind cell.now.variable cell.now.clauses (strengthenings cell.now.clauses next)))) }
     ensures past { IsPast cell.now.variable cell.now.clauses reached.new }
 {
-    let mut others = Others::of_cell(cell);
-    if let Some(entry) = chosen_subsumption(alloc, cell, &mut others, rules, reached)? {
+    if let Some(entry) = chosen_subsumption(alloc, cell, rules, reached)? {
         return Ok(Some(entry));
     }
-    chosen_strengthening(alloc, cell, &mut others, rules, next, reached)
+    chosen_strengthening(alloc, cell, rules, next, reached)
 }
 
 fn chosen_subsumption(
     alloc: Global,
     cell: &Cell,
-    others: &mut Others<'_>,
     rules: &Rules,
     reached: &mut Reached,
 ) -> Result<Option<Entry>, AllocError>
-    requires clauses { others.old ≡ cell.now.clauses }
     requires past { IsPast cell.now.variable cell.now.clauses reached.old }
     ensures found { IfOk result (λ found. option_map entry_of found ≡ where_chosen rules.now.choice.s (first_of_kind cell.now.variable cell.now.clauses (subsumptions cell.now.clauses))) }
     ensures past { IsPast cell.now.variable cell.now.clauses reached.new }
-    ensures clauses { others.new ≡ others.old }
 {
     if !rules.choice.s {
         return Ok(None);
     }
-    next_subsumed(alloc, cell, others, reached)
+    next_subsumed(alloc, cell, reached)
 }
 
 fn chosen_strengthening(
     alloc: Global,
     cell: &Cell,
-    others: &mut Others<'_>,
     rules: &Rules,
     next: u64,
     reached: &mut Reached,
 ) -> Result<Option<Entry>, AllocError>
     requires numbers { next ≤ 2 ^ 40 }
-    requires clauses { others.old ≡ cell.now.clauses }
     requires past { IsPast cell.now.variable cell.now.clauses reached.old }
     ensures found { IfOk result (λ found. option_map entry_of found ≡ where_chosen rules.now.choice.x (first_of_kind cell.now.variable cell.now.clauses (strengthenings cell.now.clauses next))) }
     ensures past { IsPast cell.now.variable cell.now.clauses reached.new }
@@ -120,7 +114,7 @@ fn chosen_strengthening(
     if !rules.choice.x {
         return Ok(None);
     }
-    next_strengthened(alloc, cell, others, next, reached)
+    next_strengthened(alloc, cell, next, reached)
 }
 
 fn chosen_blocked(alloc: Global, cell: &Cell, rules: &Rules) -> Result<Option<Entry>, AllocError>

@@ -87,7 +87,8 @@ fn searches(rt: HostRuntime) -> Result<(), Fail> {
             bound: 0,
             budget: 0,
         };
-        let found = search(rt.alloc(), &cell, &rules, 6, &mut Reached::start())?;
+        let mut reached = Reached::start(rt.alloc());
+        let found = search(rt.alloc(), &cell, &rules, 6, &mut reached)?;
         assert_eq!(rt; text_of(rt.alloc(), found)?.as_str(), expected);
     }
     Ok(())

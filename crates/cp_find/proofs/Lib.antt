@@ -1,8 +1,7 @@
-pub mod Bits
 pub mod Scans
 pub mod Firsts
 pub mod Turned
 pub mod Searches
-pub mod Candidates
 pub mod Least
+pub mod Lookups
 pub mod Past

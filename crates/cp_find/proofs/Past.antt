@@ -21,6 +21,7 @@ use Rattle.cp_occ.specs.Cells.{from_number}
 use Rattle.cp_find.specs.declared.reached.Pair.{Pair}
 use Rattle.cp_find.specs.declared.reached.Reached.{Reached}
 use Rattle.cp_find.specs.Finds.{subsumes, struck, strengthens}
+use Rattle.cp_find.specs.Lookups.{LookupView, Covers}
 use Rattle.cp_find.specs.Past.{IsBelow, ArePassed, IsPast, strengthens_at, strengthens_by, first_other}
 use Rattle.cp_find.proofs.Firsts.{subsumption_by, strengthening_by}
 use Rattle.cp_find.proofs.Scans.{first_some}
@@ -33,7 +34,22 @@ past-within x cs ds r h p = record {
   tautologies = λ c i. p.tautologies c (h c i);
   subsumptions = λ by other i j. p.subsumptions by other (h by i) (h other j);
   strengthenings = λ by other i j. p.strengthenings by other (h by i) (h other j);
+  covers = λ c i. p.covers c (h c i);
 }
+
+-- nothing is passed at the start
+pub past-start : (x : ℕ) (cs : List Named) (lookup : LookupView) → Covers cs lookup
+    → (let first : Pair = record { by = 0; other = 0 } in IsPast x cs (record { tautology = Some 0; subsumption = Some first; strengthening = Some first; lookup = lookup }))
+past-start x cs lookup h = record {
+  tautologies = λ c i l. absurd (omega (arith, l));
+  subsumptions = λ by other i j l. absurd (none by.number other.number l);
+  strengthenings = λ by other i j l. absurd (none by.number other.number l);
+  covers = h;
+}
+  where
+    none : (n m : ℕ) → (n < 0) ⊎ ((n ≡ 0) × (m < 0)) → ⊥
+    none n m (inl l) = omega (arith, l)
+    none n m (inr t) = let l = t.1 in omega (arith, l)
 
 -- and so it is passed after an entry that has no new clause of the variable
 pub past-after : (x : ℕ) (cs : List Named) (r : Reached) (e : Entry) → occurrences (new_clauses e) x ≡ [] → IsPast x cs r → IsPast x (after cs x e) r
@@ -176,19 +192,21 @@ module _ (x : ℕ) (cs : List Named) where
 
   -- what is passed once the search has found one, or none
   pub taut-found : (r : Reached) (c : Named) → IsAscending (numbers_of cs) → find (λ (c : Named). is_tautology c.clause) cs ≡ Some c → IsPast x cs r
-      → IsPast x cs (record { tautology = Some c.number; subsumption = r.subsumption; strengthening = r.strengthening })
+      → IsPast x cs (record { tautology = Some c.number; subsumption = r.subsumption; strengthening = r.strengthening; lookup = r.lookup })
   taut-found r c a h p = record {
     tautologies = λ b i l. find-before (λ (d : Named). is_tautology d.clause) cs c a h b i l;
     subsumptions = p.subsumptions;
     strengthenings = p.strengthenings;
+    covers = p.covers;
   }
 
   pub taut-gone : (r : Reached) → find (λ (c : Named). is_tautology c.clause) cs ≡ None → IsPast x cs r
-      → IsPast x cs (record { tautology = None; subsumption = r.subsumption; strengthening = r.strengthening })
+      → IsPast x cs (record { tautology = None; subsumption = r.subsumption; strengthening = r.strengthening; lookup = r.lookup })
   taut-gone r h p = record {
     tautologies = λ b i l. find-each (λ (d : Named). is_tautology d.clause) cs h b i;
     subsumptions = p.subsumptions;
     strengthenings = p.strengthenings;
+    covers = p.covers;
   }
 
 -- ---- pairs

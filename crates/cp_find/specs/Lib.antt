@@ -1,6 +1,5 @@
-pub mod Buckets
 pub mod Chosen
 pub mod Finds
 pub mod Laws
+pub mod Lookups
 pub mod Past
-pub mod Signatures

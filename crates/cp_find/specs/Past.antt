@@ -6,6 +6,7 @@ use Rattle.cp_logic.specs.Clauses.{is_tautology}
 use Rattle.cp_find.specs.declared.reached.Pair.{Pair}
 use Rattle.cp_find.specs.declared.reached.Reached.{Reached}
 use Rattle.cp_find.specs.Finds.{subsumes, struck, strengthens}
+use Rattle.cp_find.specs.Lookups.{Covers}
 
 -- whether the first clause takes this literal from the second, if it takes one; and whether it takes one of the variable from it
 abbrev pub strengthens_by : Option ℕ → Named → Named → Bool
@@ -29,11 +30,13 @@ IsBefore (Some end) by other = (by < end.by) ⊎ ((by ≡ end.by) × (other < en
 abbrev pub ArePassed : (Named → Named → Bool) → List Named → Option Pair → Type 0
 ArePassed test cs end = (by other : Named) → Contains cs by → Contains cs other → IsBefore end by.number other.number → IsFalse (test by other)
 
--- no clause below the one end is a tautology, and no pair before the other ends is one that the finders look for
+-- no clause below the one end is a tautology, no pair before the other ends is one that the finders look for, and the lookup has the
+-- clauses, where one was made
 pub record IsPast (x : ℕ) (cs : List Named) (r : Reached) : Type 0 where
   pub tautologies : (c : Named) → Contains cs c → IsBelow r.tautology c.number → IsFalse (is_tautology c.clause)
   pub subsumptions : ArePassed subsumes cs r.subsumption
   pub strengthenings : ArePassed (strengthens_at x) cs r.strengthening
+  pub covers : Covers cs r.lookup
 
 -- from which number on the others of a clause are left, where all pairs before the end are passed
 abbrev pub first_other : Pair → ℕ → ℕ

@@ -13,15 +13,19 @@ ghost use Rattle.cp_logic.specs.Locality.{after};
 ghost use Rattle.cp_logic.specs.Views.{entry_of};
 ghost use Rattle.cp_find.specs.Past.{IsPast, first_other};
 
+use crate::lookup::Lookup;
 use cp_logic::{Clause, Entry};
+use std::alloc::Global;
 
 /// What the searches at a variable have passed. No clause with a number below that of `tautology` is one, and no pair of clauses
-/// before that of `subsumption` or `strengthening` gives an entry of this kind; where it is `None`, nothing of the kind is left.
-#[derive(Clone, Copy)]
+/// before that of `subsumption` or `strengthening` gives an entry of this kind; where it is `None`, nothing of the kind is left. The
+/// lookup, where one was made, has each of the clauses that are left.
+#[derive(Drop)]
 pub struct Reached {
     pub(crate) tautology: Option<u64>,
     pub(crate) subsumption: Option<Pair>,
     pub(crate) strengthening: Option<Pair>,
+    pub(crate) lookup: Lookup,
 }
 
 /// The numbers of two clauses, of which the first takes away the other or a literal of it. Pairs are ordered by the first number, and
@@ -42,8 +46,8 @@ impl Pair {
 }
 
 impl Reached {
-    /// Nothing is passed yet. This holds of all clauses.
-    pub fn start() -> Reached
+    /// Nothing is passed yet. This holds of all clauses. It takes no memory.
+    pub fn start(alloc: Global) -> Reached
         ensures { (x : ℕ) (cs : List Named) → IsPast x cs result }
     {
         let first = Pair { by: 0, other: 0 };
@@ -51,7 +55,19 @@ impl Reached {
             tautology: Some(0),
             subsumption: Some(first),
             strengthening: Some(first),
+            lookup: Lookup::none(alloc),
         }
+    }
+
+    /// Nothing is passed any more. The memory is kept for the searches to come.
+    pub fn restart(&mut self)
+        ensures { (x : ℕ) (cs : List Named) → IsPast x cs self.new }
+    {
+        let first = Pair { by: 0, other: 0 };
+        self.tautology = Some(0);
+        self.subsumption = Some(first);
+        self.strengthening = Some(first);
+        self.lookup.forget();
     }
 
     /// What is passed once the entry, which was found at the variable, is applied, whatever numbers its new clauses get.
@@ -64,7 +80,7 @@ impl Reached {
             Entry::Eliminate { .. } | Entry::Look { .. } => false,
         };
         if !keeps {
-            *self = Reached::start();
+            self.restart();
         }
     }
 }

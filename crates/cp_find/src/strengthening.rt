@@ -18,7 +18,6 @@ ghost use Rattle.cp_logic.specs.Views.{entry_of};
 ghost use Rattle.cp_find.specs.Finds.{struck, turned, strengthens};
 ghost use Rattle.cp_find.specs.Past.{IsPast, first_other};
 
-use crate::others::Others;
 use crate::pairs::named;
 use crate::reached::{Pair, Reached};
 use crate::wanted::Wanted;
@@ -38,42 +37,34 @@ pub fn first_strengthened(
     requires { next ≤ 2 ^ 40 }
     ensures { IfOk result (λ o. option_map entry_of o ≡ first_of_kind cell.now.variable cell.now.clauses (strengthenings cell.now.clauses next)) }
 {
-    next_strengthened(
-        alloc,
-        cell,
-        &mut Others::of_cell(cell),
-        next,
-        &mut Reached::start(),
-    )
+    next_strengthened(alloc, cell, next, &mut Reached::start(alloc))
 }
 
-/// The same as `first_strengthened`, with the cell's clauses at hand, from where the last search at the variable came to.
+/// The same as `first_strengthened`, from where the last search at the variable came to.
 pub fn next_strengthened(
     alloc: Global,
     cell: &Cell,
-    others: &mut Others<'_>,
     next: u64,
     reached: &mut Reached,
 ) -> Result<Option<Entry>, AllocError>
     requires numbers { next ≤ 2 ^ 40 }
-    requires clauses { others.old ≡ cell.now.clauses }
     requires past { IsPast cell.now.variable cell.now.clauses reached.old }
     ensures found { IfOk result (λ o. option_map entry_of o ≡ first_of_kind cell.now.variable cell.now.clauses (strengthenings cell.now.clauses next)) }
     ensures past { IsPast cell.now.variable cell.now.clauses reached.new }
-    ensures clauses { others.new ≡ others.old }
 {
     let var = cell.var();
     let Some(end) = reached.strengthening else {
         return Ok(None);
     };
     let mut wanted = Vec::new(alloc);
+    reached.lookup.make_ready(alloc, cell)?;
     for (number, by) in cell.iter_from(end.by) {
         let Some(lit) = struck(by, var) else {
             continue;
         };
         fill_turned(&mut wanted, by.lits(), lit)?;
         let turned = Wanted::new(number, wanted.as_slice());
-        if let Some((other, on)) = others.first_from(alloc, end.first_other(number), &turned)? {
+        if let Some((other, on)) = reached.lookup.first(cell, end.first_other(number), &turned) {
             let by = named(number, by)?;
             let new = Named {
                 number: next,

@@ -16,7 +16,6 @@ ghost use Rattle.cp_logic.specs.Legality.{subsumptions, first_of_kind};
 ghost use Rattle.cp_logic.specs.Views.{entry_of};
 ghost use Rattle.cp_find.specs.Past.{IsPast, first_other};
 
-use crate::others::Others;
 use crate::pairs::named;
 use crate::reached::{Pair, Reached};
 use crate::wanted::Wanted;
@@ -32,35 +31,28 @@ pub fn first_subsumed(alloc: Global, cell: &Cell, next: u64) -> Result<Option<En
     requires { next ≤ 2 ^ 40 }
     ensures { IfOk result (λ o. option_map entry_of o ≡ first_of_kind cell.now.variable cell.now.clauses (subsumptions cell.now.clauses)) }
 {
-    next_subsumed(
-        alloc,
-        cell,
-        &mut Others::of_cell(cell),
-        &mut Reached::start(),
-    )
+    next_subsumed(alloc, cell, &mut Reached::start(alloc))
 }
 
-/// The same as `first_subsumed`, with the cell's clauses at hand, from where the last search at the variable came to.
+/// The same as `first_subsumed`, from where the last search at the variable came to.
 pub fn next_subsumed(
     alloc: Global,
     cell: &Cell,
-    others: &mut Others<'_>,
     reached: &mut Reached,
 ) -> Result<Option<Entry>, AllocError>
-    requires clauses { others.old ≡ cell.now.clauses }
-    requires past { IsPast cell.now.variable cell.now.clauses reached.old }
+    requires { IsPast cell.now.variable cell.now.clauses reached.old }
     ensures found { IfOk result (λ o. option_map entry_of o ≡ first_of_kind cell.now.variable cell.now.clauses (subsumptions cell.now.clauses)) }
     ensures past { IsPast cell.now.variable cell.now.clauses reached.new }
-    ensures clauses { others.new ≡ others.old }
 {
     // It says of the cell that each clause has the variable.
     let _ = cell.var();
     let Some(end) = reached.subsumption else {
         return Ok(None);
     };
+    reached.lookup.make_ready(alloc, cell)?;
     for (number, by) in cell.iter_from(end.by) {
         let wanted = Wanted::new(number, by.lits());
-        if let Some((other, gone)) = others.first_from(alloc, end.first_other(number), &wanted)? {
+        if let Some((other, gone)) = reached.lookup.first(cell, end.first_other(number), &wanted) {
             let by = named(number, by)?;
             let gone = named(other, gone)?;
             reached.subsumption = Some(Pair { by: number, other });

@@ -18,11 +18,11 @@ use std::alloc::{AllocError, Global};
 /// The tautology of the least number among the clauses of the cell, or `None` where none is a tautology.
 ///
 /// It adds no clause, so it leaves `next` alone. The error comes only for want of memory.
-pub fn first_taut(_alloc: Global, cell: &Cell, next: u64) -> Result<Option<Entry>, AllocError>
+pub fn first_taut(alloc: Global, cell: &Cell, next: u64) -> Result<Option<Entry>, AllocError>
     requires { next ≤ 2 ^ 40 }
     ensures { IfOk result (λ o. option_map entry_of o ≡ first_of_kind cell.now.variable cell.now.clauses (tauts cell.now.clauses)) }
 {
-    next_taut(cell, &mut Reached::start())
+    next_taut(cell, &mut Reached::start(alloc))
 }
 
 /// The same as `first_taut`, from where the last search at the variable came to.

@@ -1,18 +1,15 @@
-//! What a search looks for, and what it looks at: literals, and clauses that a cell lends, each with their signature.
-ghost use Rattle.std.specs.Prelude.{◌≡◌};
+//! What a search looks for, and what it looks at: literals, and clauses of a cell, each with their signature.
+ghost use Rattle.std.specs.Prelude.{◌≡◌, IsTrue};
 ghost use Rattle.std.specs.List.{find};
 ghost use Rattle.std.specs.Option.{option_map};
-ghost use Rattle.cp_logic.specs.Clauses.{contains, is_subset, IsAscending};
+ghost use Rattle.cp_logic.specs.Clauses.{IsAscending};
 ghost use Rattle.cp_logic.specs.Items.{named_item};
 ghost use Rattle.cp_logic.specs.declared.named.Named.{Named};
 ghost use Rattle.cp_find.specs.Finds.{subsumes};
+ghost use Rattle.cp_find.specs.Lookups.{signed};
 
-use crate::signatures::signature;
-use cp_logic::{Clause, Lit, is_subset};
+use cp_logic::{Clause, Lit, is_subset, signature};
 use std::marker::Model;
-
-// Among so many times as many literals, a search for each of the wanted ones costs more than a pass.
-const MOST_TIMES_LONGER: usize = 4;
 
 /// Literals that are looked for in clauses of other numbers than the one given, seen as the numbered clause of them.
 #[derive(Drop)]
@@ -26,7 +23,7 @@ impl<'a> Model for Wanted<'a> {
     ghost use Rattle.std.specs.Prelude.{◌≡◌};
     ghost use Rattle.cp_logic.specs.Clauses.{IsAscending};
     ghost use Rattle.cp_logic.specs.declared.named.Named.{Named};
-    ghost use Rattle.cp_find.specs.Signatures.{signature};
+    ghost use Rattle.cp_logic.specs.Signatures.{signature};
 
     ghost Value = { Named };
 
@@ -54,119 +51,35 @@ impl<'a> Wanted<'a> {
         self.lits
     }
 
-    // Whether the clause has another number and all of the literals.
-    fn is_met_by(&self, other: &Signed<'_>) -> bool
-        ensures { result ≡ subsumes self.now other.now }
+    /// Whether the clause of this number and signature may have another number and all of the literals: false only where it hasn't.
+    pub(crate) fn may_be_in(&self, other: Signed) -> bool
+        ensures { (c : Named) → signed c ≡ other → IsTrue (subsumes self.now c) → IsTrue result }
     {
-        if self.bits & other.bits != self.bits || self.number == other.number {
-            return false;
-        }
-        is_within(self.lits, other.clause.lits())
+        self.number != other.number && self.bits & other.bits == self.bits
     }
 
-    /// The same of a clause without a signature.
+    /// Whether the clause has another number and all of the literals.
     pub(crate) fn is_in(&self, number: u64, clause: &Clause) -> bool
         ensures { result ≡ subsumes self.now (record { number = number; clause = clause.now }) }
     {
-        self.number != number && is_within(self.lits, clause.lits())
+        self.number != number && is_subset(self.lits, clause.lits())
     }
 }
 
-/// A clause that a cell lends, with its number and its signature, seen as the numbered clause.
-#[derive(Drop)]
-pub(crate) struct Signed<'a> {
-    number: u64,
-    clause: &'a Clause,
-    bits: u64,
+/// The number and the signature of a clause.
+#[derive(Clone, Copy)]
+pub(crate) struct Signed {
+    pub(crate) number: u64,
+    pub(crate) bits: u64,
 }
 
-impl<'a> Model for Signed<'a> {
-    ghost use Rattle.std.specs.Prelude.{◌≡◌};
-    ghost use Rattle.cp_logic.specs.declared.named.Named.{Named};
-    ghost use Rattle.cp_find.specs.Signatures.{signature};
-
-    ghost Value = { Named };
-
-    ghost view = { λ c. record { number = c.number; clause = c.clause.now } };
-
-    ghost invariant = { λ c. c.bits ≡ signature c.clause.now };
-}
-
-impl<'a> Signed<'a> {
-    pub(crate) fn new(number: u64, clause: &'a Clause) -> Signed<'a>
-        ensures { result ≡ record { number = number; clause = clause.now } }
+impl Signed {
+    pub(crate) fn new(number: u64, clause: &Clause) -> Signed
+        ensures { result ≡ signed (record { number = number; clause = clause.now }) }
     {
         Signed {
             number,
-            clause,
             bits: signature(clause.lits()),
         }
     }
-
-    /// The same clause once more.
-    pub(crate) fn again(&self) -> Signed<'a>
-        ensures { result ≡ self.now }
-    {
-        Signed {
-            number: self.number,
-            clause: self.clause,
-            bits: self.bits,
-        }
-    }
-
-    pub(crate) fn clause(&self) -> &'a Clause
-        ensures { result.now ≡ self.now.clause }
-    {
-        self.clause
-    }
-}
-
-/// The first of the clauses that has all of the literals and another number.
-pub(crate) fn first_met<'a>(
-    clauses: &[Signed<'a>],
-    wanted: &Wanted<'_>,
-) -> Option<(u64, &'a Clause)>
-    ensures { option_map named_item result ≡ find (subsumes wanted.now) clauses.now }
-{
-    for other in clauses {
-        if wanted.is_met_by(other) {
-            return Some((other.number, other.clause));
-        }
-    }
-    None
-}
-
-// Whether each of the wanted literals is among the others. Where these are many more, each is searched on its own: a pass would
-// read most of a long clause to find that a short one is not in it.
-fn is_within(wanted: &[Lit], others: &[Lit]) -> bool
-    requires ascending { IsAscending wanted.now }
-    requires others_ascending { IsAscending others.now }
-    ensures { result ≡ is_subset wanted.now others.now }
-{
-    if others.len() / MOST_TIMES_LONGER > wanted.len() {
-        are_found(wanted, others)
-    } else {
-        is_subset(wanted, others)
-    }
-}
-
-// Whether a search among the others finds each of the literals.
-fn are_found(wanted: &[Lit], others: &[Lit]) -> bool
-    requires { IsAscending others.now }
-    ensures { result ≡ is_subset wanted.now others.now }
-{
-    for lit in wanted {
-        if !is_found(*lit, others) {
-            return false;
-        }
-    }
-    true
-}
-
-// Whether the literal is one of the others.
-fn is_found(lit: Lit, others: &[Lit]) -> bool
-    requires { IsAscending others.now }
-    ensures { result ≡ contains others.now lit }
-{
-    others.binary_search(&lit).is_ok()
 }

@@ -4,3 +4,4 @@ pub mod Entered
 pub mod Changed
 pub mod Posted
 mod Searches
+pub mod Sided

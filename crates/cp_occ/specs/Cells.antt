@@ -1,9 +1,9 @@
 -- Cells. A cell is seen as its variable and the numbered clauses that have the variable, by ascending number.
-use Rattle.std.specs.Prelude.{◌≡◌, ℕ, ◌+◌, ◌<◌, ◌≤◌, ◌==◌, nat_le, List, [], ◌∷◌, ◌++◌, map, length, slice_index_or, if◌then◌else◌, IsTrue}
+use Rattle.std.specs.Prelude.{◌≡◌, ℕ, Bool, ◌+◌, ◌<◌, ◌≤◌, ◌==◌, nat_le, List, [], ◌∷◌, ◌++◌, map, length, slice_index_or, if◌then◌else◌, IsTrue}
 use Rattle.std.specs.List.{All, filter}
 use Rattle.cp_logic.specs.declared.named.Named.{Named}
 use Rattle.cp_logic.specs.Literals.{variable_of}
-use Rattle.cp_logic.specs.Clauses.{has_variable, IsAscending}
+use Rattle.cp_logic.specs.Clauses.{contains, has_variable, is_tautology, IsAscending}
 use Rattle.cp_logic.specs.Formulas.{numbers_of, occurrences}
 
 -- spare is for how many further clauses there is room
@@ -16,6 +16,15 @@ pub record CellView : Type 0 where
 pub record IsOf (x : ℕ) (c : Named) : Type 0 where
   pub set : IsAscending c.clause
   pub has : IsTrue (has_variable x c.clause)
+
+-- what an occurrence keeps of a clause: a literal that it has, and whether it is a tautology
+pub record IsSided (clause : List ℕ) (literal : ℕ) (tautology : Bool) : Type 0 where
+  pub has : IsTrue (contains clause literal)
+  pub told : tautology ≡ is_tautology clause
+
+-- the clauses that are tautologies
+abbrev pub tautologies_of : List Named → List Named
+tautologies_of cs = filter (λ c. is_tautology c.clause) cs
 
 -- the numbers rise, and each clause has the variable, which is 1 to 2,000,000
 pub record IsListed (x : ℕ) (cs : List Named) : Type 0 where

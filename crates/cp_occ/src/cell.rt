@@ -1,6 +1,6 @@
 //! Cells: the clauses of one variable.
-ghost use Rattle.std.specs.Prelude.{◌≡◌, ◌≢◌, ◌≤◌, ◌<◌, ◌+◌, ◌==◌, ℕ, [], ◌∷◌, ◌++◌, length, slice_get, slice_index_or, IsTrue, OnOk, IfOk, IfSome, IfNone, None};
-ghost use Rattle.std.specs.List.{All, list_any};
+ghost use Rattle.std.specs.Prelude.{◌≡◌, ◌≢◌, ◌≤◌, ◌<◌, ◌+◌, ◌==◌, ℕ, [], ◌∷◌, ◌++◌, length, slice_get, slice_index_or, if◌then◌else◌, IsTrue, OnOk, IfOk, IfSome, IfNone, None};
+ghost use Rattle.std.specs.List.{All, find, list_any};
 ghost use Rattle.std.specs.Option.{option_map};
 ghost use Rattle.cp_logic.specs.Literals.{positive, negative};
 ghost use Rattle.cp_logic.specs.Clauses.{has_variable, is_tautology, IsAscending};
@@ -21,17 +21,19 @@ use std::marker::Model;
 /// A variable and the clauses that have it, with their numbers, by ascending number.
 ///
 /// What applies at a variable is decided by its clauses. So a cell keeps by which rules a search of it gave nothing, until a clause comes
-/// or goes, and whoever has the cell next needn't search it again.
+/// or goes, and whoever has the cell next needn't search it again. It counts its tautologies, and an occurrence tells the side of its
+/// clause, so neither a test for tautologies nor one for a sign reads a clause.
 #[derive(Drop)]
 pub struct Cell {
     var: u32,
     occurrences: Vec<Occurrence>,
+    tautologies: usize,
     silent: Option<Searched>,
 }
 
 impl Model for Cell {
-    ghost use Rattle.std.specs.Prelude.{◌-◌, vec_len, vec_capacity};
-    ghost use Rattle.cp_occ.specs.Cells.{CellView, IsListed};
+    ghost use Rattle.std.specs.Prelude.{◌≡◌, ◌-◌, length, vec_len, vec_capacity};
+    ghost use Rattle.cp_occ.specs.Cells.{CellView, IsListed, tautologies_of};
     ghost use Rattle.cp_occ.specs.Silence.{IsSilent};
 
     ghost Value = { CellView };
@@ -42,7 +44,7 @@ impl Model for Cell {
       spare = vec_capacity c.occurrences - vec_len c.occurrences;
     } };
 
-    ghost invariant = { λ c. IsListed c.var c.occurrences.items × IsSilent c.var c.occurrences.items c.silent };
+    ghost invariant = { λ c. IsListed c.var c.occurrences.items × IsSilent c.var c.occurrences.items c.silent × (c.tautologies ≡ length (tautologies_of c.occurrences.items)) };
 }
 
 impl Cell {
@@ -58,6 +60,7 @@ impl Cell {
         Cell {
             var,
             occurrences: Vec::new(alloc),
+            tautologies: 0,
             silent: None,
         }
     }
@@ -73,6 +76,7 @@ impl Cell {
         Ok(Cell {
             var,
             occurrences,
+            tautologies: 0,
             silent: None,
         })
     }
@@ -138,16 +142,21 @@ impl Cell {
         }
     }
 
-    /// Whether a clause is a tautology.
+    /// Whether a clause is a tautology. It takes no time.
     pub fn has_tautology(&self) -> bool
         ensures { result ≡ list_any (λ c. is_tautology c.clause) self.now.clauses }
     {
-        for (_, clause) in self.iter() {
-            if clause.is_tautology() {
-                return true;
-            }
+        self.tautologies > 0
+    }
+
+    /// The tautology of the least number that is this one or above it, with its number, or `None` if there is none. No clause is read.
+    pub fn first_tautology_from(&self, number: u64) -> Option<(u64, &Clause)>
+        ensures { option_map named_item result ≡ find (λ c. is_tautology c.clause) (from_number number self.now.clauses) }
+    {
+        if self.tautologies == 0 {
+            return None;
         }
-        false
+        self.iter_from(number).first_tautology()
     }
 
     /// Whether the cell keeps that a search by rules of this choice and bound gives nothing. `false` says nothing of a search.
@@ -196,9 +205,11 @@ impl Cell {
         ensures spare { self.new.spare + 1 ≡ self.old.spare }
     {
         let _ = place.clause().lits();
+        let _ = self.occurrences.capacity();
         self.silent = None;
+        self.tautologies += one_if(place.is_tautology());
         self.occurrences
-            .push_reserved(Occurrence::new(number, place));
+            .push_reserved(Occurrence::new(number, place, self.var));
     }
 
     /// Takes the clause away that stands under the number, or answers `None` where there is none. It takes no memory.
@@ -210,8 +221,17 @@ impl Cell {
     {
         let at = position(self.occurrences.as_slice(), number)?;
         self.silent = None;
-        Some(self.occurrences.remove(at).into_place())
+        let gone = self.occurrences.remove(at);
+        self.tautologies -= one_if(gone.is_tautology());
+        Some(gone.into_place())
     }
+}
+
+// 1 if so, else 0.
+fn one_if(so: bool) -> usize
+    ensures { result ≡ (if so then 1 else 0) }
+{
+    if so { 1 } else { 0 }
 }
 
 // The position of the clause under the number, if there is one.

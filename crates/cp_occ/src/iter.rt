@@ -1,6 +1,9 @@
 //! Iterators over the clauses of a cell.
 ghost use Rattle.std.specs.Prelude.{◌≡◌, IfOk};
 ghost use Rattle.std.specs.Iterator.{YieldsFirstBy, item_count};
+ghost use Rattle.std.specs.List.{find};
+ghost use Rattle.std.specs.Option.{option_map};
+ghost use Rattle.cp_logic.specs.Clauses.{is_tautology};
 ghost use Rattle.cp_logic.specs.Items.{named_item};
 
 use crate::lent::Lent;
@@ -22,6 +25,22 @@ impl<'a> Model for CellIter<'a> {
     ghost Value = { List Named };
 
     ghost view = { λ it. it.left.now };
+}
+
+impl<'a> CellIter<'a> {
+    // The first tautology, or `None` if none is left. No clause is read.
+    pub(crate) fn first_tautology(self) -> Option<(u64, &'a Clause)>
+        ensures { option_map named_item result ≡ find (λ c. is_tautology c.clause) self.entry }
+    {
+        let mut left = self.left;
+        while let Some((first, rest)) = left.split_first() {
+            if first.is_tautology() {
+                return Some((first.number(), first.clause()));
+            }
+            left = rest;
+        }
+        None
+    }
 }
 
 impl<'a> Iterator for CellIter<'a> {
@@ -78,7 +97,7 @@ impl<'a> Iterator for LiteralIter<'a> {
     fn next(&mut self) -> Option<(u64, &'a Clause)> {
         while let Some((first, rest)) = self.left.split_first() {
             self.left = rest;
-            if first.clause().contains(self.lit) {
+            if first.has(self.lit) {
                 return Some((first.number(), first.clause()));
             }
         }

@@ -24,13 +24,13 @@ all_more [] ns = append-nil ns
 all_more (ms ∷ noted) ns = ap (λ (l : List Note). ms ++ l) (all_more noted ns) ∙ sym (append_assoc ms (all_notes noted) ns)
 
 -- a shift in an earlier round is one where another round follows
-in_earlier : (f : Base) (limit number r : ℕ) (noted : List (List Note)) (ns : List Note) (posts same : List (ℕ × Post)) (s : WorkerShift) → same ≡ posts
-    → IsShiftIn f limit number r noted posts s → IsShiftIn f limit number r (noted ++ ns ∷ []) same s
-in_earlier f limit number r noted ns posts same s p a = record {
+in_earlier : (f : Base) (workers limit number r : ℕ) (noted : List (List Note)) (ns : List Note) (posts same : List (ℕ × Post)) (s : WorkerShift) → same ≡ posts
+    → IsShiftIn f workers limit number r noted posts s → IsShiftIn f workers limit number r (noted ++ ns ∷ []) same s
+in_earlier f workers limit number r noted ns posts same s p a = record {
   notes = a.notes;
   there = at_front noted (ns ∷ []) r (slice_get_within noted r a.notes a.there) ∙ a.there;
   drawn = a.drawn;
-  shift = subst (λ (ps : List (ℕ × Post)). IsShift f number (r + 1) limit a.notes ps a.drawn s) (sym p) a.shift;
+  shift = subst (λ (ps : List (ℕ × Post)). IsShift f number (r + 1) workers limit a.notes ps a.drawn s) (sym p) a.shift;
 }
 
 -- ---- rows
@@ -64,7 +64,7 @@ module _ (n b : ℕ) (shifts ss : List WorkerShift) (long : length shifts ≡ b 
   -- ---- one worker
 
   done_next : (f : Base) (limit i : ℕ) (notes noted now : List Note) (old posted new : List (ℕ × Post)) (drawn : List ℕ) (s : WorkerShift) → i < n → slice_get ss i ≡ Some s
-      → AreDone f limit n i b shifts notes old → now ≡ notes ++ noted → new ≡ old ++ posted → IsShift f (i + 1) (b + 1) limit noted posted drawn s
+      → AreDone f limit n i b shifts notes old → now ≡ notes ++ noted → new ≡ old ++ posted → IsShift f (i + 1) (b + 1) n limit noted posted drawn s
       → AreDone f limit n i (b + 1) (shifts ++ ss) now new
   done_next f limit i notes noted now old posted new drawn s low at d g e shift = record {
     range = subst (All (λ q. (1 ≤ q.1.round) × (q.1.round ≤ b + 1))) (sym e)
@@ -79,8 +79,8 @@ module _ (n b : ℕ) (shifts ss : List WorkerShift) (long : length shifts ≡ b 
     rounds = (let n = d.rounds in let long = length-append d.noted (noted ∷ []) in omega arith);
     all = g ∙ (ap (λ (ns : List Note). ns ++ noted) d.all ∙ sym (all_more d.noted noted));
     each = λ r t at_t. ⊎_elim
-        (λ k. in_earlier f limit (i + 1) r d.noted noted (in_round (r + 1) old) (in_round (r + 1) new) t (earlier r k.0) (d.each r t k.1))
-        (λ k. subst (λ (z : ℕ × WorkerShift). IsShiftIn f limit (i + 1) z.0 (d.noted ++ noted ∷ []) (in_round (z.0 + 1) new) z.1) (λ j. (sym k.0 j, sym (is t k.1) j)) here)
+        (λ k. in_earlier f n limit (i + 1) r d.noted noted (in_round (r + 1) old) (in_round (r + 1) new) t (earlier r k.0) (d.each r t k.1))
+        (λ k. subst (λ (z : ℕ × WorkerShift). IsShiftIn f n limit (i + 1) z.0 (d.noted ++ noted ∷ []) (in_round (z.0 + 1) new) z.1) (λ j. (sym k.0 j, sym (is t k.1) j)) here)
         (placed i r t low at_t);
   }
     where
@@ -103,12 +103,12 @@ module _ (n b : ℕ) (shifts ss : List WorkerShift) (long : length shifts ≡ b 
           first : in_round (b + 1) old ≡ []
           first = filter-none (λ (q : ℕ × Post). q.1.round == b + 1) old (λ k x inside. let u = (d.range k x inside).1 in ne_eqb (get_or old k x).1.round (b + 1) (λ f. omega arith))
 
-      here : IsShiftIn f limit (i + 1) b (d.noted ++ noted ∷ []) (in_round (b + 1) new) s
+      here : IsShiftIn f n limit (i + 1) b (d.noted ++ noted ∷ []) (in_round (b + 1) new) s
       here = record {
         notes = noted;
         there = at_back d.noted (noted ∷ []) 0 b (let n = d.rounds in omega arith);
         drawn = drawn;
-        shift = subst (λ (ps : List (ℕ × Post)). IsShift f (i + 1) (b + 1) limit noted ps drawn s) (sym latest) shift;
+        shift = subst (λ (ps : List (ℕ × Post)). IsShift f (i + 1) (b + 1) n limit noted ps drawn s) (sym latest) shift;
       }
 
   going_on : ((q : ℕ) → q < b → NoneStopped (of_round n q shifts)) → NoneStopped ss → (q : ℕ) → q < b + 1 → NoneStopped (of_round n q (shifts ++ ss))
@@ -139,7 +139,7 @@ played_start y limit n seats team are new = record {
   taken_all = λ r x low. absurd (omega arith);
 }
 
-module _ (y : YardView) (limit n b : ℕ) (seats news : List Sitting) (shifts ss : List WorkerShift) (p : ArePlayed y limit n b seats shifts) (o : IsRound y limit (b + 1) seats news ss) where
+module _ (y : YardView) (limit n b : ℕ) (seats news : List Sitting) (shifts ss : List WorkerShift) (p : ArePlayed y limit n b seats shifts) (o : IsRound y n limit (b + 1) seats news ss) where
   few : length ss ≡ n
   few = o.count ∙ p.team
 
@@ -154,7 +154,7 @@ module _ (y : YardView) (limit n b : ℕ) (seats news : List Sitting) (shifts ss
         let k = o.work i v.0 w s.0 v.1 at_w s.1 in let is = p.are_seats i v.0 v.1 in
         done_next n b shifts ss p.count few y.base limit i v.0.view.own.notes k.noted w.view.own.notes v.0.view.own.posts k.posted w.view.own.posts k.drawn s.0 (omega arith) s.1
         (p.each i v.0 v.1) k.goes.notes k.goes.posts
-        (subst (λ (z : Base × ℕ). IsShift z.0 z.1 (b + 1) limit k.noted k.posted k.drawn s.0) (λ j. (is.base j, is.number j)) k.shift);
+        (subst (λ (z : Base × ℕ). IsShift z.0 z.1 (b + 1) n limit k.noted k.posted k.drawn s.0) (λ j. (is.base j, is.number j)) k.shift);
     taken_once = λ r x. ⊎_elim
         (λ (less : r < b). subst (λ (l : List WorkerShift). times_taken x l ≤ once_in x y.base.formula.variables) (sym (front_row n b shifts ss p.count few r less)) (p.taken_once r x))
         (λ (ge : b ≤ r). ⊎_elim
@@ -198,7 +198,7 @@ shifts_are y limit n rounds b seats shifts h shares p ends own workers = record 
         noted = d.noted;
         rounds = d.rounds;
         notes = d.all;
-        each = λ r s at. subst (λ (ps : List (ℕ × Post)). IsShiftIn y.base limit (w + 1) r d.noted ps s)
+        each = λ r s at. subst (λ (ps : List (ℕ × Post)). IsShiftIn y.base n limit (w + 1) r d.noted ps s)
             (ap (in_round (r + 1)) (own w v.0 v.1).0 ∙ filter-filter (λ (q : ℕ × Post). q.1.round == r + 1) (λ (q : ℕ × Post). q.1.worker == w + 1) (enumerate_from 0 h))
             (d.each r s at);
       };

@@ -35,22 +35,22 @@ abbrev pub all_notes : List (List Note) → List Note
 all_notes noted = flat_map (λ ns. ns) noted
 
 -- the shift is what these posts and, of the notes by round, those of round r, counted from 0, come to
-pub record IsShiftIn (f : Base) (limit number r : ℕ) (noted : List (List Note)) (posts : List (ℕ × Post)) (s : WorkerShift) : Type 0 where
+pub record IsShiftIn (f : Base) (workers limit number r : ℕ) (noted : List (List Note)) (posts : List (ℕ × Post)) (s : WorkerShift) : Type 0 where
   pub notes : List Note
   pub there : slice_get noted r ≡ Some notes
   pub drawn : List ℕ
-  pub shift : IsShift f number (r + 1) limit notes posts drawn s
+  pub shift : IsShift f number (r + 1) workers limit notes posts drawn s
 
 -- The shifts of the worker of this number in so many rounds: at r stands that of round r, counted from 0. The notes of the number's share are those
 -- of the rounds, one round after the other, and no others; each shift is over its round's notes, and its posts are just the journal's there.
-pub record AreShiftsOf (f : Base) (limit : ℕ) (h : List Post) (shares : List Share) (number begun : ℕ) (at : ℕ → Option WorkerShift) : Type 0 where
+pub record AreShiftsOf (f : Base) (workers limit : ℕ) (h : List Post) (shares : List Share) (number begun : ℕ) (at : ℕ → Option WorkerShift) : Type 0 where
   pub share : Share
   pub there : Contains shares share
   pub whose : share.number ≡ number
   pub noted : List (List Note)
   pub rounds : length noted ≡ begun
   pub notes : share.notes ≡ all_notes noted
-  pub each : (r : ℕ) (s : WorkerShift) → at r ≡ Some s → IsShiftIn f limit number r noted (posts_in_round h number (r + 1)) s
+  pub each : (r : ℕ) (s : WorkerShift) → at r ≡ Some s → IsShiftIn f workers limit number r noted (posts_in_round h number (r + 1)) s
 
 -- of the rounds asked for all began, unless a shift stopped, after whose round none began
 pub record EndsAt (workers rounds begun : ℕ) (shifts : List WorkerShift) : Type 0 where
@@ -64,7 +64,7 @@ pub record EndsAt (workers rounds begun : ℕ) (shifts : List WorkerShift) : Typ
 pub record AreShifts (f : Base) (workers rounds limit : ℕ) (h : List Post) (shares : List Share) (shifts : List WorkerShift) : Type 0 where
   pub begun : ℕ
   pub count : length shifts ≡ begun * workers
-  pub each : (w : ℕ) → w < workers → AreShiftsOf f limit h shares (w + 1) begun (λ r. shift_at workers r w shifts)
+  pub each : (w : ℕ) → w < workers → AreShiftsOf f workers limit h shares (w + 1) begun (λ r. shift_at workers r w shifts)
   pub ends : EndsAt workers rounds begun shifts
   pub taken_once : (r x : ℕ) → times_taken x (of_round workers r shifts) ≤ once_in x f.formula.variables
   pub taken_all : (r x : ℕ) → r < begun → NoneStopped (of_round workers r shifts) → 1 ≤ x → x ≤ f.formula.variables → times_taken x (of_round workers r shifts) ≡ 1

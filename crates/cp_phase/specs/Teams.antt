@@ -10,7 +10,8 @@ use Rattle.cp_hood.specs.Seats.{GoesOn, Continues}
 use Rattle.cp_claim.specs.Views.{Counter, share, DrawsOnly, founder}
 use Rattle.cp_claim.specs.Views as claims
 use Rattle.cp_worker.specs.declared.lists.WorkerShift.{WorkerShift}
-use Rattle.cp_worker.specs.Shifts.{candidates_of, IsShift}
+use Rattle.cp_worker.specs.Candidates.{candidates_of}
+use Rattle.cp_worker.specs.Shifts.{IsShift}
 use Rattle.cp_phase.specs.declared.team.Member.{Member}
 use Rattle.cp_phase.specs.Rounds.{of_round, shift_at, times_taken, once_in, NoneStopped, all_notes, IsShiftIn}
 
@@ -72,36 +73,36 @@ pub record IsReady (y : YardView) (c : Counter) (m : Member) : Type 0 where
   pub idle : IsIdle m.seat.view
 
 -- the shift is what the seat did in the round, with this limit of a neighbourhood
-pub record IsWork (limit in_round : ℕ) (v w : SeatView) (s : WorkerShift) : Type 0 where
+pub record IsWork (workers limit in_round : ℕ) (v w : SeatView) (s : WorkerShift) : Type 0 where
   pub noted : List Note
   pub posted : List (ℕ × Post)
   pub drawn : List ℕ
   pub goes : GoesOn v w noted posted
-  pub shift : IsShift v.base v.number in_round limit noted posted drawn s
+  pub shift : IsShift v.base v.number in_round workers limit noted posted drawn s
 
--- the shift took what the claim seat drew, and if it didn't stop the claim seat has ended
-pub record IsTaken (v w : claims.View) (s : WorkerShift) : Type 0 where
+-- the shift, beside so many workers, took what the claim seat drew, and if it didn't stop the claim seat has ended
+pub record IsTaken (workers variables : ℕ) (v w : claims.View) (s : WorkerShift) : Type 0 where
   pub drawn : List ℕ
   pub claims : w.drawn ≡ v.drawn ++ drawn
-  pub taken : s.taken.items ≡ candidates_of drawn
+  pub taken : s.taken.items ≡ candidates_of workers variables drawn
   pub ended : s.stopped ≡ None → (word : ℕ) × (w.mine.end ≡ Some word)
 
 -- the member has worked in the round; it has no shift where memory ran out
-pub record HasWorked (limit in_round : ℕ) (old new : Member) : Type 0 where
+pub record HasWorked (workers limit in_round : ℕ) (old new : Member) : Type 0 where
   pub table : new.seat.table ≡ old.seat.table
   pub counter : new.claim.counter ≡ old.claim.counter
   pub idle : IsIdle new.seat.view
   pub seat : Continues old.seat.view new.seat.view
   pub claim : DrawsOnly old.claim.view new.claim.view
-  pub work : ForSome new.shift (IsWork limit in_round old.seat.view new.seat.view)
-  pub taken : ForSome new.shift (IsTaken old.claim.view new.claim.view)
+  pub work : ForSome new.shift (IsWork workers limit in_round old.seat.view new.seat.view)
+  pub taken : ForSome new.shift (IsTaken workers old.seat.view.base.formula.variables old.claim.view new.claim.view)
 
 -- the seats before and after a round, with its shifts
-pub record IsRound (y : YardView) (limit in_round : ℕ) (olds news : List Sitting) (shifts : List WorkerShift) : Type 0 where
+pub record IsRound (y : YardView) (workers limit in_round : ℕ) (olds news : List Sitting) (shifts : List WorkerShift) : Type 0 where
   pub team : length news ≡ length olds
   pub seats : AreSeats y news
   pub count : length shifts ≡ length olds
-  pub work : (i : ℕ) (v w : Sitting) (s : WorkerShift) → slice_get olds i ≡ Some v → slice_get news i ≡ Some w → slice_get shifts i ≡ Some s → IsWork limit in_round v.view w.view s
+  pub work : (i : ℕ) (v w : Sitting) (s : WorkerShift) → slice_get olds i ≡ Some v → slice_get news i ≡ Some w → slice_get shifts i ≡ Some s → IsWork workers limit in_round v.view w.view s
   pub taken_once : (x : ℕ) → times_taken x shifts ≤ once_in x y.base.formula.variables
   pub taken_all : (x : ℕ) → NoneStopped shifts → 1 ≤ x → x ≤ y.base.formula.variables → times_taken x shifts ≡ 1
 
@@ -119,7 +120,7 @@ pub record AreDone (f : Base) (limit workers i begun : ℕ) (shifts : List Worke
   pub noted : List (List Note)
   pub rounds : length noted ≡ begun
   pub all : notes ≡ all_notes noted
-  pub each : (r : ℕ) (s : WorkerShift) → shift_at workers r i shifts ≡ Some s → IsShiftIn f limit (i + 1) r noted (in_round (r + 1) posts) s
+  pub each : (r : ℕ) (s : WorkerShift) → shift_at workers r i shifts ≡ Some s → IsShiftIn f workers limit (i + 1) r noted (in_round (r + 1) posts) s
 
 -- the seats of so many workers after so many rounds, and the shifts of these
 pub record ArePlayed (y : YardView) (limit workers begun : ℕ) (seats : List Sitting) (shifts : List WorkerShift) : Type 0 where

@@ -42,6 +42,7 @@ fn play_all<R: Threads + Sync, G: Gate + Sync>(
     requires new { AreNew seats.items }
     requires some { 0 < length seats.items }
     requires few { length seats.items ≤ 64 }
+    requires team { length seats.items ≡ opts.now.workers }
     requires none { shifts.old.items ≡ [] }
     ensures { IfOk result (λ v. (begun : ℕ) × ArePlayed yard.now opts.now.hood (length seats.items) begun v.items shifts.new.items × EndsAt (length seats.items) opts.now.rounds begun shifts.new.items) }
 {
@@ -59,8 +60,9 @@ fn play_all<R: Threads + Sync, G: Gate + Sync>(
 /// Lets `opts.workers` workers, 1 to 64, work for `opts.rounds` rounds, each in a thread of its own where one can be made, and joins
 /// them.
 ///
-/// In a round the workers draw each variable once between them. After a round in which a shift stopped no further one begins. It may
-/// wait for its threads, so its return isn't promised. The error comes only for want of memory; then all is dropped.
+/// In a round the workers draw each variable once between them, at the same time mostly variables that are apart. After a round in
+/// which a shift stopped no further one begins. It may wait for its threads, so its return isn't promised. The error comes only for
+/// want of memory; then all is dropped.
 pub fn rounds<R: Threads + Sync, G: Gate + Sync>(
     rt: &R,
     alloc: Global,

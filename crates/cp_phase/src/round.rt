@@ -27,16 +27,17 @@ fn work_all<R: Threads + Sync, G: Gate + Sync>(
     requires ready { All (IsReady yard.now task.now.claims) members.old }
     requires rules { task.now.opts.rules ≡ yard.now.base.rules }
     requires limit { task.now.claims.limit ≡ yard.now.base.formula.variables }
+    requires workers { 1 ≤ task.now.opts.workers }
     ensures count { length members.new ≡ length members.old }
-    ensures worked { (i : ℕ) (d : Member) → i < length members.old → HasWorked task.now.opts.hood task.now.round (slice_index_or members.old i d) (slice_index_or members.new i d) }
+    ensures worked { (i : ℕ) (d : Member) → i < length members.old → HasWorked task.now.opts.workers task.now.opts.hood task.now.round (slice_index_or members.old i d) (slice_index_or members.new i d) }
 {
     thread::for_each_mut(
         rt,
         members,
         members.len(),
         &|_, member: &mut Member|
-            requires { IsReady yard.now task.now.claims member.old × (task.now.opts.rules ≡ yard.now.base.rules) × (task.now.claims.limit ≡ yard.now.base.formula.variables) }
-            ensures { HasWorked task.entry.now.opts.hood task.entry.now.round member.entry.now member.exit.now }
+            requires { IsReady yard.now task.now.claims member.old × (task.now.opts.rules ≡ yard.now.base.rules) × (task.now.claims.limit ≡ yard.now.base.formula.variables) × (1 ≤ task.now.opts.workers) }
+            ensures { HasWorked task.entry.now.opts.workers task.entry.now.opts.hood task.entry.now.round member.entry.now member.exit.now }
         {
             member.work(yard, task, gate);
         },
@@ -94,7 +95,8 @@ pub(crate) fn play_round<R: Threads + Sync, G: Gate + Sync>(
     requires seats { AreSeats yard.now seats.items }
     requires some { 0 < length seats.items }
     requires few { length seats.items ≤ 64 }
-    ensures { IfOk result (λ r. (ss : List WorkerShift) × (shifts.new.items ≡ shifts.old.items ++ ss) × IsRound yard.now opts.now.hood round seats.items r.0.items ss × MatchBool r.1 (OneStopped ss) (NoneStopped ss)) }
+    requires workers { 1 ≤ opts.now.workers }
+    ensures { IfOk result (λ r. (ss : List WorkerShift) × (shifts.new.items ≡ shifts.old.items ++ ss) × IsRound yard.now opts.now.workers opts.now.hood round seats.items r.0.items ss × MatchBool r.1 (OneStopped ss) (NoneStopped ss)) }
 {
     let (claims, mut claim) = Claims::new(alloc, u64::from(yard.vars()))?;
     let mut after = Vec::with_capacity(alloc, seats.len())?;

@@ -34,7 +34,8 @@ impl Member {
         requires ready { IsReady yard.now task.now.claims self.old }
         requires rules { task.now.opts.rules ≡ yard.now.base.rules }
         requires limit { task.now.claims.limit ≡ yard.now.base.formula.variables }
-        ensures { HasWorked task.now.opts.hood task.now.round self.old self.new }
+        requires workers { 1 ≤ task.now.opts.workers }
+        ensures { HasWorked task.now.opts.workers task.now.opts.hood task.now.round self.old self.new }
     {
         let done = shift(
             task.alloc,

@@ -34,6 +34,7 @@ use cp_logic::{Entry, Formula, Journal, Rules, Stack, Stop};
 use cp_occ::Cells;
 use cp_yard::Ground;
 use std::alloc::{AllocError, Global};
+use std::mem;
 
 /// What a sweep leaves: the formula, the journal of what was done to it, the pairs that complete its models, and why it stopped, if
 /// something was left to do.
@@ -91,11 +92,11 @@ pub fn sweep(alloc: Global, ground: Ground) -> Result<Swept, AllocError>
         book,
         cells,
         mark: 1,
-        reached: Reached::start(),
+        reached: Reached::start(alloc),
         touched,
     };
     'searches: while let Some(var) = next_touched(&state) {
-        state.reached = reached_at(&state, var);
+        move_to(&mut state.reached, state.mark, var);
         state.mark = var;
         if let Some(stop) = turn(alloc, &mut state)? {
             return Ok(closed(state.book, Some(stop)));
@@ -143,15 +144,14 @@ fn next_touched(state: &Sweeping) -> Option<u32>
     Some(var as u32)
 }
 
-// What the searches have passed at the variable to which the mark moves: where it is another one, nothing.
-fn reached_at(state: &Sweeping, var: u32) -> Reached
-    ensures { (cs : List Named) → IsPast state.now.mark (occurrences cs state.now.mark) state.now.reached → IsPast var (occurrences cs var) result }
+// What the searches have passed once the mark moves to the variable: where it is another one, nothing.
+fn move_to(reached: &mut Reached, mark: u32, var: u32)
+    ensures { (cs : List Named) → IsPast mark (occurrences cs mark) reached.old → IsPast var (occurrences cs var) reached.new }
 {
-    if var == state.mark {
-        state.reached
-    } else {
-        Reached::start()
+    if var == mark {
+        return;
     }
+    reached.restart();
 }
 
 // What the book leaves.
@@ -186,7 +186,7 @@ fn turn(alloc: Global, state: &mut Sweeping) -> Result<Option<Stop>, AllocError>
     if let Some(stop) = state.book.stopped() {
         return Ok(Some(stop));
     }
-    let mut reached = state.reached;
+    let mut reached = mem::replace(&mut state.reached, Reached::start(alloc));
     let found = search_at(alloc, state, &mut reached)?;
     state.reached = reached;
     match found {

@@ -1,5 +1,5 @@
 -- A shift, visit by visit.
-use Rattle.std.proofs.Common.{◌≡◌, ℕ, ◌+◌, Bool, false, List, [], ◌∷◌, ◌++◌, append_assoc, append-nil, Option, Some, None, inl, inr, refl, sym, ◌∙◌, ap, subst}
+use Rattle.std.proofs.Common.{◌≡◌, ℕ, Bool, false, List, [], ◌∷◌, ◌++◌, append_assoc, append-nil, Option, Some, None, inl, inr, refl, sym, ◌∙◌, ap, subst}
 use Rattle.std.specs.Prelude.{◌⊎◌, is_some}
 use Rattle.std.specs.List.{flat_map, All, Contains}
 use Rattle.std.proofs.lemmas.Grind.{flat_map-append}
@@ -23,6 +23,7 @@ use Rattle.cp_worker.specs.declared.lists.WideAt.{WideAt}
 use Rattle.cp_worker.specs.declared.lists.WorkerShift.{WorkerShift}
 use Rattle.cp_worker.specs.Visits.{IsVisit, IsPostOf, positions, commits_of}
 use Rattle.cp_worker.specs.Listing.{IsListing, busy_of, late_of, wide_of, stopped_after}
+use Rattle.cp_worker.specs.Candidates.{candidate_of, candidates_of}
 use Rattle.cp_worker.specs.Shifts.{IsShift, Visited, Gives, IsSettled, IsBusy, IsLate, IsWide, IsAccounted, IsLast, IsStopped}
 use Rattle.cp_worker.proofs.Commits.{EndWith-later, IsSeen, seen, commits_are, posts_are}
 
@@ -110,9 +111,9 @@ all_more : {A : Type 0} (f : Visited → List A) (visits : List Visited) (v : Vi
 all_more f visits v = ap (λ xs. flat_map f visits ++ xs) (sym (append-nil (f v))) ∙ sym (flat_map-append f visits (v ∷ []))
 
 -- nothing was drawn yet
-pub starts-shift : (f : Base) (number in_round limit : ℕ) (s : WorkerShift) → s.worker ≡ number → s.round ≡ in_round → s.taken.items ≡ [] → s.commits.items ≡ [] → s.busy.items ≡ [] → s.late.items ≡ []
-    → s.wide.items ≡ [] → s.stopped ≡ None → IsShift f number in_round limit [] [] [] s
-starts-shift f number in_round limit s w r t c b l d n = record {
+pub starts-shift : (f : Base) (number in_round workers limit : ℕ) (s : WorkerShift) → s.worker ≡ number → s.round ≡ in_round → s.taken.items ≡ [] → s.commits.items ≡ [] → s.busy.items ≡ [] → s.late.items ≡ []
+    → s.wide.items ≡ [] → s.stopped ≡ None → IsShift f number in_round workers limit [] [] [] s
+starts-shift f number in_round workers limit s w r t c b l d n = record {
   worker = w;
   round = r;
   taken = t;
@@ -134,77 +135,78 @@ starts-shift f number in_round limit s w r t c b l d n = record {
 }
 
 -- one visit more
-pub visits-more : (f : Base) (number in_round limit : ℕ) (noted more : List Note) (posted posts : List (ℕ × Post)) (drawn : List ℕ) (n : ℕ) (answer : AtAnswer) (old new : WorkerShift)
-    → old.stopped ≡ None → IsShift f number in_round limit noted posted drawn old → IsVisit f number (n + 1) in_round limit more posts answer → IsListing (n + 1) answer old new
-    → IsShift f number in_round limit (noted ++ more) (posted ++ posts) (drawn ++ n ∷ []) new
-visits-more f number in_round limit noted more posted posts drawn n answer old new unstopped s v l =
-    let see = seen f number (n + 1) in_round limit more posts answer v in
-    let one : Visited = record { at = n + 1; answer = answer; noted = more; posted = posts } in
+pub visits-more : (f : Base) (number in_round workers limit : ℕ) (noted more : List Note) (posted posts : List (ℕ × Post)) (drawn : List ℕ) (n c : ℕ) (answer : AtAnswer) (old new : WorkerShift)
+    → c ≡ candidate_of workers f.formula.variables n → old.stopped ≡ None → IsShift f number in_round workers limit noted posted drawn old → IsVisit f number c in_round limit more posts answer → IsListing c answer old new
+    → IsShift f number in_round workers limit (noted ++ more) (posted ++ posts) (drawn ++ n ∷ []) new
+visits-more f number in_round workers limit noted more posted posts drawn n c answer old new is unstopped s v l =
+    let see = seen f number c in_round limit more posts answer v in
+    let one : Visited = record { at = c; answer = answer; noted = more; posted = posts } in
     let Fits : Visited → Type 0 = λ w. IsVisit f number w.at in_round limit w.noted w.posted w.answer in
     record {
       worker = l.worker ∙ s.worker;
       round = l.round ∙ s.round;
-      taken = l.taken ∙ ap (λ (xs : List ℕ). xs ++ (n + 1) ∷ []) s.taken ∙ sym (map-append (λ k. k + 1) drawn (n ∷ []));
+      taken = l.taken ∙ ap (λ (xs : List ℕ). xs ++ c ∷ []) s.taken ∙ ap (λ z. candidates_of workers f.formula.variables drawn ++ z ∷ []) is
+          ∙ sym (map-append (λ k. candidate_of workers f.formula.variables k) drawn (n ∷ []));
       visits = s.visits ++ one ∷ [];
       each = All-append Fits s.visits (one ∷ []) s.each (All-cons Fits one [] v (All-nil Fits));
-      visited = l.taken ∙ ap (λ (xs : List ℕ). xs ++ (n + 1) ∷ []) s.visited ∙ sym (map-append (λ (w : Visited). w.at) s.visits (one ∷ []));
+      visited = l.taken ∙ ap (λ (xs : List ℕ). xs ++ c ∷ []) s.visited ∙ sym (map-append (λ (w : Visited). w.at) s.visits (one ∷ []));
       notes = ap (λ (ns : List Note). ns ++ more) s.notes ∙ all_more (λ w. w.noted) s.visits one;
       posted_are = ap (λ (ps : List (ℕ × Post)). ps ++ posts) s.posted_are ∙ all_more (λ w. w.posted) s.visits one;
-      busy_are = l.busy ∙ ap (λ (bs : List BusyAt). bs ++ busy_of (n + 1) answer) s.busy_are ∙ all_more (λ w. busy_of w.at w.answer) s.visits one;
-      late_are = l.late ∙ ap (λ (bs : List LateAt). bs ++ late_of (n + 1) answer) s.late_are ∙ all_more (λ w. late_of w.at w.answer) s.visits one;
-      wide_are = l.wide ∙ ap (λ (bs : List WideAt). bs ++ wide_of (n + 1) answer) s.wide_are ∙ all_more (λ w. wide_of w.at w.answer) s.visits one;
-      commits = l.commits ∙ ap (λ (ns : List ℕ). ns ++ commits_of answer) s.commits ∙ ap (λ (ns : List ℕ). positions posted ++ ns) (commits_are f number (n + 1) in_round limit more posts answer v)
+      busy_are = l.busy ∙ ap (λ (bs : List BusyAt). bs ++ busy_of c answer) s.busy_are ∙ all_more (λ w. busy_of w.at w.answer) s.visits one;
+      late_are = l.late ∙ ap (λ (bs : List LateAt). bs ++ late_of c answer) s.late_are ∙ all_more (λ w. late_of w.at w.answer) s.visits one;
+      wide_are = l.wide ∙ ap (λ (bs : List WideAt). bs ++ wide_of c answer) s.wide_are ∙ all_more (λ w. wide_of w.at w.answer) s.visits one;
+      commits = l.commits ∙ ap (λ (ns : List ℕ). ns ++ commits_of answer) s.commits ∙ ap (λ (ns : List ℕ). positions posted ++ ns) (commits_are f number c in_round limit more posts answer v)
           ∙ sym (map-append (λ (q : ℕ × Post). q.0) posted posts);
-      posts = All-append (IsPostOf number in_round) posted posts s.posts (posts_are f number (n + 1) in_round limit more posts answer v);
-      busy = All-same (IsBusy (noted ++ more)) new.busy.items (old.busy.items ++ busy_of (n + 1) answer) l.busy
-          (All-append (IsBusy (noted ++ more)) old.busy.items (busy_of (n + 1) answer)
+      posts = All-append (IsPostOf number in_round) posted posts s.posts (posts_are f number c in_round limit more posts answer v);
+      busy = All-same (IsBusy (noted ++ more)) new.busy.items (old.busy.items ++ busy_of c answer) l.busy
+          (All-append (IsBusy (noted ++ more)) old.busy.items (busy_of c answer)
           (All-weaker (IsBusy noted) (IsBusy (noted ++ more)) (λ b i. Contains-append_left noted more (Met b.var b.by) i) old.busy.items s.busy)
-          (busy_here f number (n + 1) in_round limit noted more posted posts answer see));
-      late = All-same (IsLate (noted ++ more)) new.late.items (old.late.items ++ late_of (n + 1) answer) l.late
-          (All-append (IsLate (noted ++ more)) old.late.items (late_of (n + 1) answer)
+          (busy_here f number c in_round limit noted more posted posts answer see));
+      late = All-same (IsLate (noted ++ more)) new.late.items (old.late.items ++ late_of c answer) l.late
+          (All-append (IsLate (noted ++ more)) old.late.items (late_of c answer)
           (All-weaker (IsLate noted) (IsLate (noted ++ more)) (λ b i. Contains-append_left noted more (MetTurn b.by) i) old.late.items s.late)
-          (late_here f number (n + 1) in_round limit noted more posted posts answer see));
-      wide = All-same (IsWide limit (noted ++ more)) new.wide.items (old.wide.items ++ wide_of (n + 1) answer) l.wide
-          (All-append (IsWide limit (noted ++ more)) old.wide.items (wide_of (n + 1) answer)
+          (late_here f number c in_round limit noted more posted posts answer see));
+      wide = All-same (IsWide limit (noted ++ more)) new.wide.items (old.wide.items ++ wide_of c answer) l.wide
+          (All-append (IsWide limit (noted ++ more)) old.wide.items (wide_of c answer)
           (All-weaker (IsWide limit noted) (IsWide limit (noted ++ more)) (λ w h. (h.0, Contains-append_left noted more (Got w.at h.0) h.1, h.2, h.3)) old.wide.items s.wide)
-          (wide_here f number (n + 1) in_round limit noted more posted posts answer see));
-      accounted = λ x i. elim (Contains-push_cases old.taken.items (n + 1) x (subst (λ (xs : List ℕ). Contains xs x) l.taken i)) [
+          (wide_here f number c in_round limit noted more posted posts answer see));
+      accounted = λ x i. elim (Contains-push_cases old.taken.items c x (subst (λ (xs : List ℕ). Contains xs x) l.taken i)) [
         | inl j ↦ elim (s.accounted x j) [
-          | inl a ↦ inl (account_later f number (n + 1) in_round limit noted more posted posts answer old new x l a)
+          | inl a ↦ inl (account_later f number c in_round limit noted more posted posts answer old new x l a)
           | inr e ↦ absurd (none_some old.stopped e.1.0 unstopped e.1.1)
         ]
         | inr e ↦ subst (λ z. IsAccounted f (noted ++ more) (posted ++ posts) new z ⊎ (IsLast z new.taken.items × ((stop : Stop) × (new.stopped ≡ Some stop)))) e
-            (account_here f number (n + 1) in_round limit noted more posted posts answer old new see l)
+            (account_here f number c in_round limit noted more posted posts answer old new see l)
       ];
       stopped = λ stop e. subst (λ (xs : List ℕ). IsStopped f (noted ++ more) (posted ++ posts) xs stop) (sym l.taken)
-          (stopped_here f number (n + 1) in_round limit noted more posted posts answer stop old.taken.items old.stopped new.stopped see unstopped l.stopped e);
+          (stopped_here f number c in_round limit noted more posted posts answer stop old.taken.items old.stopped new.stopped see unstopped l.stopped e);
     }
 
 -- a shift under way: what was noted, posted and drawn, and what is listed of it
-pub record IsGoing (v w : SeatView) (first now : List ℕ) (in_round limit : ℕ) (s : WorkerShift) : Type 0 where
+pub record IsGoing (v w : SeatView) (first now : List ℕ) (in_round workers limit : ℕ) (s : WorkerShift) : Type 0 where
   pub noted : List Note
   pub posted : List (ℕ × Post)
   pub drawn : List ℕ
   pub goes : GoesOn v w noted posted
   pub draws : now ≡ first ++ drawn
-  pub shift : IsShift v.base v.number in_round limit noted posted drawn s
+  pub shift : IsShift v.base v.number in_round workers limit noted posted drawn s
 
-pub starts : (v : SeatView) (first : List ℕ) (in_round limit : ℕ) (s : WorkerShift) → IsShift v.base v.number in_round limit [] [] [] s → IsGoing v v first first in_round limit s
-starts v first in_round limit s h = record { noted = []; posted = []; drawn = []; goes = GoesOn-none v; draws = sym (append-nil first); shift = h }
+pub starts : (v : SeatView) (first : List ℕ) (in_round workers limit : ℕ) (s : WorkerShift) → IsShift v.base v.number in_round workers limit [] [] [] s → IsGoing v v first first in_round workers limit s
+starts v first in_round workers limit s h = record { noted = []; posted = []; drawn = []; goes = GoesOn-none v; draws = sym (append-nil first); shift = h }
 
-pub more_going : (v w u : SeatView) (first now : List ℕ) (in_round limit n : ℕ) (answer : AtAnswer) (old new : WorkerShift) (more : List Note) (posts : List (ℕ × Post))
-    → old.stopped ≡ None → IsGoing v w first now in_round limit old → GoesOn w u more posts → IsVisit w.base w.number (n + 1) old.round limit more posts answer → IsListing (n + 1) answer old new
-    → IsGoing v u first (now ++ n ∷ []) in_round limit new
-more_going v w u first now in_round limit n answer old new more posts unstopped i go h l = record {
+pub more_going : (v w u : SeatView) (first now : List ℕ) (in_round workers limit n c : ℕ) (answer : AtAnswer) (old new : WorkerShift) (more : List Note) (posts : List (ℕ × Post))
+    → c ≡ candidate_of workers v.base.formula.variables n → old.stopped ≡ None → IsGoing v w first now in_round workers limit old → GoesOn w u more posts → IsVisit w.base w.number c old.round limit more posts answer → IsListing c answer old new
+    → IsGoing v u first (now ++ n ∷ []) in_round workers limit new
+more_going v w u first now in_round workers limit n c answer old new more posts is unstopped i go h l = record {
   noted = i.noted ++ more;
   posted = i.posted ++ posts;
   drawn = i.drawn ++ n ∷ [];
   goes = GoesOn-then v w u i.noted more i.posted posts i.goes go;
   draws = ap (λ (ns : List ℕ). ns ++ n ∷ []) i.draws ∙ append_assoc first i.drawn (n ∷ []);
-  shift = visits-more v.base v.number in_round limit i.noted more i.posted posts i.drawn n answer old new unstopped i.shift
-      (subst (λ (f : Base). IsVisit f v.number (n + 1) in_round limit more posts answer) i.goes.base
-      (subst (λ k. IsVisit w.base k (n + 1) in_round limit more posts answer) i.goes.number
-      (subst (λ k. IsVisit w.base w.number (n + 1) k limit more posts answer) i.shift.round h)))
+  shift = visits-more v.base v.number in_round workers limit i.noted more i.posted posts i.drawn n c answer old new is unstopped i.shift
+      (subst (λ (f : Base). IsVisit f v.number c in_round limit more posts answer) i.goes.base
+      (subst (λ k. IsVisit w.base k c in_round limit more posts answer) i.goes.number
+      (subst (λ k. IsVisit w.base w.number c k limit more posts answer) i.shift.round h)))
       l;
 }
 

@@ -1,4 +1,5 @@
 pub mod Visits
 pub mod Posting
 pub mod Listing
+pub mod Candidates
 pub mod Shifts

@@ -1,5 +1,5 @@
 -- A shift: the visits of one worker in one round.
-use Rattle.std.specs.Prelude.{◌≡◌, ◌⊎◌, ℕ, ◌+◌, ◌<◌, Option, Some, None, List, [], ◌∷◌, map, length, ◌++◌}
+use Rattle.std.specs.Prelude.{◌≡◌, ◌⊎◌, ℕ, ◌<◌, Option, Some, None, List, [], ◌∷◌, map, length, ◌++◌}
 use Rattle.std.specs.List.{flat_map, All, Contains}
 use Rattle.cp_logic.specs.declared.named.Named.{Named}
 use Rattle.cp_logic.specs.declared.stop.Stop.{Stop}
@@ -17,6 +17,7 @@ use Rattle.cp_worker.specs.declared.lists.WideAt.{WideAt}
 use Rattle.cp_worker.specs.declared.lists.WorkerShift.{WorkerShift}
 use Rattle.cp_worker.specs.Visits.{positions, clauses_after, IsPostOf, IsVisit}
 use Rattle.cp_worker.specs.Listing.{busy_of, late_of, wide_of}
+use Rattle.cp_worker.specs.Candidates.{candidates_of}
 
 -- x was got with some clauses, and among those, after these posts, the search gives this
 abbrev pub Gives : Base → ℕ → List Note → List (ℕ × Post) → Option Entry → Type 0
@@ -32,10 +33,6 @@ IsSettled f x noted posted = Gives f x noted posted None
 abbrev pub EndsStopped : Base → ℕ → List Note → List (ℕ × Post) → Stop → Type 0
 EndsStopped f x noted posted stop =
     (h : List Post) × (e : Entry) × EndWith (GotTurn h) noted × Gives f x noted posted (Some e) × IsStopAfter f h e stop
-
--- the candidates of the numbers drawn: variables are counted from 1
-abbrev pub candidates_of : List ℕ → List ℕ
-candidates_of drawn = map (λ n. n + 1) drawn
 
 abbrev pub IsBusy : List Note → BusyAt → Type 0
 IsBusy noted b = Contains noted (Met b.var b.by)
@@ -70,12 +67,12 @@ pub record Visited : Type 0 where
   pub noted : List Note
   pub posted : List (ℕ × Post)
 
--- What a shift of the worker in the round comes to, with the numbers that it drew. It is the visits of its candidates, one after the other: their
--- notes and posts are all that was noted and posted, and the lists are those of their answers, in this order.
-pub record IsShift (f : Base) (number in_round limit : ℕ) (noted : List Note) (posted : List (ℕ × Post)) (drawn : List ℕ) (s : WorkerShift) : Type 0 where
+-- What a shift of the worker in the round comes to, with the numbers that it drew, beside so many workers. It is the visits of their candidates, one
+-- after the other: their notes and posts are all that was noted and posted, and the lists are those of their answers, in this order.
+pub record IsShift (f : Base) (number in_round workers limit : ℕ) (noted : List Note) (posted : List (ℕ × Post)) (drawn : List ℕ) (s : WorkerShift) : Type 0 where
   pub worker : s.worker ≡ number
   pub round : s.round ≡ in_round
-  pub taken : s.taken.items ≡ candidates_of drawn
+  pub taken : s.taken.items ≡ candidates_of workers f.formula.variables drawn
   pub visits : List Visited
   pub each : All (λ v. IsVisit f number v.at in_round limit v.noted v.posted v.answer) visits
   pub visited : s.taken.items ≡ map (λ v. v.at) visits

@@ -8,6 +8,7 @@
 #![tactic(auto)]
 
 mod answer;
+mod apart;
 mod gate;
 mod lists;
 #[cfg(test)]

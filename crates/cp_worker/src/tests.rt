@@ -14,7 +14,9 @@ use std::test::Fail;
 const LAST: u64 = 1_099_511_627_775;
 
 // Options for tautologies, strengthening and elimination.
-fn opts_of(budget: u64, hood: u32) -> Opts {
+fn opts_of(budget: u64, hood: u32) -> Opts
+    ensures { result.workers ≡ 1 }
+{
     let choice = Choice {
         t: true,
         s: false,
@@ -99,6 +101,7 @@ fn ending_of(alloc: Global, answer: &AtAnswer) -> Result<String, AllocError> {
 fn work(alloc: Global, yard: &Yard, seat: &mut Seat, opts: &Opts) -> Result<String, AllocError>
     requires seat { (seat.old.table ≡ yard.now.table) × (seat.old.view.base ≡ yard.now.base) × IsIdle seat.old.view }
     requires yard { (opts.now.rules ≡ yard.now.base.rules) × (yard.now.base.formula.variables ≡ 3) }
+    requires workers { opts.now.workers ≡ 1 }
     ensures seat { (seat.new.table ≡ yard.now.table) × (seat.new.view.base ≡ yard.now.base) × IsIdle seat.new.view }
 {
     let (claims, mut claim) = Claims::new(alloc, 3)?;

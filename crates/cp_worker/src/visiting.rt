@@ -166,7 +166,7 @@ fn commit_all(
     ensures holds { HoldsJust seat.new.view hood.new.cells }
 {
     let mut commits = Positions::new(alloc);
-    let mut reached = Reached::start();
+    let mut reached = Reached::start(alloc);
     'commits: while let Some(entry) = search(alloc, hood.centre(), rules, 1, &mut reached)? {
         reached.follow(&entry, hood.centre().var());
         if let Err(answer) = commit_listed(alloc, yard, seat, hood, entry, round, &mut commits) {

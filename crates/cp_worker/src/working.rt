@@ -10,6 +10,7 @@ ghost use Rattle.cp_worker.specs.Visits.{IsVisit};
 ghost use Rattle.cp_worker.specs.Listing.{IsListing};
 ghost use Rattle.cp_worker.specs.Shifts.{IsShift};
 
+use crate::apart::candidate_at;
 use crate::gate::{Gate, GateEvent};
 use crate::lists::WorkerShift;
 use crate::visiting::try_at;
@@ -20,8 +21,9 @@ use std::alloc::{AllocError, Global};
 
 /// Draws candidates for the round and visits each, until none is left or a visit finds that the run has stopped.
 ///
-/// The claims are those of the numbers of variables, less 1. Afterwards the seat holds nothing, also after the error, which comes only
-/// for want of memory; the posts made until then stand.
+/// The claims are of as many numbers as there are variables. Each number stands for one variable, and numbers that come one after the
+/// other for variables that are apart, by the options' number of workers. Afterwards the seat holds nothing, also after the error,
+/// which comes only for want of memory; the posts made until then stand.
 pub fn shift<G: Gate>(
     alloc: Global,
     yard: &Yard,
@@ -38,19 +40,19 @@ pub fn shift<G: Gate>(
     requires counter { claim.old.counter ≡ claims.now }
     requires limit { claims.now.limit ≡ yard.now.base.formula.variables }
     requires idle { IsIdle seat.old.view }
+    requires workers { 1 ≤ opts.now.workers }
     ensures table { seat.new.table ≡ seat.old.table }
     ensures counter { claim.new.counter ≡ claim.old.counter }
     ensures idle { IsIdle seat.new.view }
     ensures seat { Continues seat.old.view seat.new.view }
     ensures claim { DrawsOnly claim.old.view claim.new.view }
-    ensures shift { IfOk result (λ s. (noted : List Note) × (posted : List (ℕ × Post)) × (drawn : List ℕ) × GoesOn seat.old.view seat.new.view noted posted × (claim.new.view.drawn ≡ claim.old.view.drawn ++ drawn) × IsShift seat.old.view.base seat.old.view.number round opts.now.hood noted posted drawn s) }
+    ensures shift { IfOk result (λ s. (noted : List Note) × (posted : List (ℕ × Post)) × (drawn : List ℕ) × GoesOn seat.old.view seat.new.view noted posted × (claim.new.view.drawn ≡ claim.old.view.drawn ++ drawn) × IsShift seat.old.view.base seat.old.view.number round opts.now.workers opts.now.hood noted posted drawn s) }
     ensures ended { IfOk result (λ s. s.stopped ≡ None → (word : ℕ) × (claim.new.view.mine.end ≡ Some word)) }
 {
     let mut shift = WorkerShift::new(alloc, seat.number(), round);
-    // The variables are few, so their numbers fit.
-    yard.vars();
+    let vars = yard.vars();
     'draws: while let Some(number) = claims.next(claim) {
-        let candidate = number as u32 + 1;
+        let candidate = candidate_at(number, vars, opts.workers);
         visit(alloc, yard, seat, candidate, opts, gate, &mut shift)?;
         if shift.stopped.is_some() {
             return Ok(shift);

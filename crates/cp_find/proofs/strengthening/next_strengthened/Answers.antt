@@ -27,8 +27,7 @@ loop-number-init c =
     record {
       left = ap (first_some (λ (b : Named). strengthening_by x c.args.next (from_number (first_other c.in-Some.end b.number) cs) b)) (c.into_iter-number-iterator.ensures.into_iter_gives ∙ c.iter_from-number-items.ensures)
           ∙ pairs-left (strengthens_at x) (strengthening_by x c.args.next) (strengthenings-tie x c.args.next) cs c.in-Some.end (subst (ArePassed (strengthens_at x) cs) c.in-Some.is c.requires.past.strengthenings);
-      clauses = c.requires.clauses;
-      past = c.requires.past;
+      past = record { tautologies = c.requires.past.tautologies; subsumptions = c.requires.past.subsumptions; strengthenings = c.requires.past.strengthenings; covers = c.make_ready.ensures };
     }
 
 pub new-turned-requires : goal.new-turned-requires
@@ -37,20 +36,19 @@ new-turned-requires c =
     subst IsAscending (sym (c.as_slice.ensures.value ∙ c.in_ok-fill_turned.ensures ∙ ap (map (turned lit)) c.lits.ensures.value))
     (IsAscending-turned lit clause c.lits.ensures.ascending (alone c.var-var.result clause lit (sym c.in-Some-struck.ensures)).2)
 
-pub returns-in-Some-3 : goal.returns-in-Some-3
-returns-in-Some-3 c =
+pub returns-in-Some-first : goal.returns-in-Some-first
+returns-in-Some-first c =
     let x = c.args.cell.now.variable in let cs = c.args.cell.now.clauses in let next : ℕ = c.args.next in let end = c.in-Some.end in
     let by : Named = record { number = c.in-Some-2.number; clause = c.in-Some-2.by.now } in
-    let on : Named = record { number = c.in-Some-3.other; clause = c.in-Some-3.on.now } in
+    let on : Named = record { number = c.in-Some-first.other; clause = c.in-Some-first.on.now } in
     let lit : ℕ = c.in-Some-struck.lit in
     let turned_by : Named = record { number = c.in-Some-2.number; clause = map (turned lit) c.in-Some-2.by.now } in
     let met : Some on ≡ find (strengthens lit by) (from_number (first_other end by.number) cs) =
-    ap (option_map named_item) (sym c.in-Some-3.is) ∙ c.in_ok-other.ensures.found
-    ∙ ap (λ (w : Named). find (subsumes w) (from_number c.first_other.result c.loop-number.others))
+    ap (option_map named_item) (sym c.in-Some-first.is) ∙ c.first.ensures
+    ∙ ap (λ (w : Named). find (subsumes w) (from_number c.first_other.result cs))
     (c.new-turned.ensures ∙ ap (λ (z : List ℕ). let n : Named = record { number = c.in-Some-2.number; clause = z } in n)
     (c.as_slice.ensures.value ∙ c.in_ok-fill_turned.ensures ∙ ap (map (turned lit)) c.lits.ensures.value))
-    ∙ ap (λ n. find (subsumes turned_by) (from_number n c.loop-number.others)) c.first_other.ensures
-    ∙ ap (λ ds. find (subsumes turned_by) (from_number (first_other end by.number) ds)) c.loop-number.invariant.clauses in
+    ∙ ap (λ n. find (subsumes turned_by) (from_number n cs)) c.first_other.ensures in
     let answer : first_some (strengthening_by x next cs) cs ≡ Some (strengthening next by on lit) =
     sym c.loop-number.invariant.left
     ∙ some-here (λ (b : Named). strengthening_by x next (from_number (first_other end b.number) cs) b) c.loop-number.number-iterator by c.next.new.self (strengthening next by on lit) c.in-Some-2.ensures.steps
@@ -67,8 +65,8 @@ returns-in-Some-3 c =
         tautologies = p.tautologies;
         subsumptions = p.subsumptions;
         strengthenings = pairs-found (strengthens_at x) (strengthening_by x next) (strengthenings-tie x next) cs (strengthening next by on lit) c.var-var.ensures.valid.rising answer;
+        covers = p.covers;
       };
-      clauses = c.in_ok-other.ensures.same ∙ c.loop-number.invariant.clauses ∙ sym c.requires.clauses;
     }
 
 pub returns : goal.returns
@@ -83,6 +81,6 @@ returns c =
         tautologies = p.tautologies;
         subsumptions = p.subsumptions;
         strengthenings = pairs-gone (strengthens_at x) (strengthening_by x c.args.next) (strengthenings-tie x c.args.next) cs none;
+        covers = p.covers;
       };
-      clauses = c.loop-number.invariant.clauses ∙ sym c.requires.clauses;
     }

@@ -11,6 +11,5 @@ abbrev pub invariant-loop-number : goal.invariant-loop-number
 invariant-loop-number l = record {
   left : first_some (λ (b : Named). strengthening_by l.cell.variable l.next (from_number (first_other l.end b.number) l.cell.clauses) b) l.number-iterator
       ≡ first_some (strengthening_by l.cell.variable l.next l.cell.clauses) l.cell.clauses;
-  clauses : l.others ≡ l.cell.clauses;
   past : IsPast l.cell.variable l.cell.clauses l.reached;
 }

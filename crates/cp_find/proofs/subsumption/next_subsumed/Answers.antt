@@ -17,29 +17,27 @@ pub returns-in_default-clause-found : goal.returns-in_default-clause-found
 returns-in_default-clause-found c =
     let cell = c.args.cell.now in
     sym (first-subsumed cell.variable cell.clauses (cell-have cell c.var.ensures.valid)
-    ∙ pairs-none subsumes subsumption_by subsumptions-tie cell.clauses (subst (ArePassed subsumes cell.clauses) c.in_default.is c.requires.past.subsumptions))
+    ∙ pairs-none subsumes subsumption_by subsumptions-tie cell.clauses (subst (ArePassed subsumes cell.clauses) c.in_default.is c.requires.subsumptions))
 
 pub loop-number-init : goal.loop-number-init
 loop-number-init c =
     let cs = c.args.cell.now.clauses in
     record {
       left = ap (first_some (λ (b : Named). subsumption_by (from_number (first_other c.in-Some.end b.number) cs) b)) (c.into_iter-number-iterator.ensures.into_iter_gives ∙ c.iter_from-number-items.ensures)
-          ∙ pairs-left subsumes subsumption_by subsumptions-tie cs c.in-Some.end (subst (ArePassed subsumes cs) c.in-Some.is c.requires.past.subsumptions);
-      clauses = c.requires.clauses;
-      past = c.requires.past;
+          ∙ pairs-left subsumes subsumption_by subsumptions-tie cs c.in-Some.end (subst (ArePassed subsumes cs) c.in-Some.is c.requires.subsumptions);
+      past = record { tautologies = c.requires.tautologies; subsumptions = c.requires.subsumptions; strengthenings = c.requires.strengthenings; covers = c.make_ready.ensures };
     }
 
-pub returns-in-Some-3 : goal.returns-in-Some-3
-returns-in-Some-3 c =
+pub returns-in-Some-first : goal.returns-in-Some-first
+returns-in-Some-first c =
     let cell = c.args.cell.now in let cs = cell.clauses in let end = c.in-Some.end in
     let by : Named = record { number = c.in-Some-2.number; clause = c.in-Some-2.by.now } in
-    let gone : Named = record { number = c.in-Some-3.other; clause = c.in-Some-3.gone.now } in
+    let gone : Named = record { number = c.in-Some-first.other; clause = c.in-Some-first.gone.now } in
     let met : Some gone ≡ find (subsumes by) (from_number (first_other end by.number) cs) =
-    ap (option_map named_item) (sym c.in-Some-3.is) ∙ c.in_ok-other.ensures.found
-    ∙ ap (λ (w : Named). find (subsumes w) (from_number c.first_other.result c.loop-number.others))
+    ap (option_map named_item) (sym c.in-Some-first.is) ∙ c.first.ensures
+    ∙ ap (λ (w : Named). find (subsumes w) (from_number c.first_other.result cs))
     (c.new-wanted.ensures ∙ ap (λ (z : List ℕ). let n : Named = record { number = c.in-Some-2.number; clause = z } in n) c.lits.ensures.value)
-    ∙ ap (λ n. find (subsumes by) (from_number n c.loop-number.others)) c.first_other.ensures
-    ∙ ap (λ ds. find (subsumes by) (from_number (first_other end by.number) ds)) c.loop-number.invariant.clauses in
+    ∙ ap (λ n. find (subsumes by) (from_number n cs)) c.first_other.ensures in
     let answer : first_some (subsumption_by cs) cs ≡ Some (Subsume by gone) =
     sym c.loop-number.invariant.left
     ∙ some-here (λ (b : Named). subsumption_by (from_number (first_other end b.number) cs) b) c.loop-number.number-iterator by c.next.new.self (Subsume by gone) c.in-Some-2.ensures.steps
@@ -53,8 +51,8 @@ returns-in-Some-3 c =
         tautologies = p.tautologies;
         subsumptions = pairs-found subsumes subsumption_by subsumptions-tie cs (Subsume by gone) c.var.ensures.valid.rising answer;
         strengthenings = p.strengthenings;
+        covers = p.covers;
       };
-      clauses = c.in_ok-other.ensures.same ∙ c.loop-number.invariant.clauses ∙ sym c.requires.clauses;
     }
 
 pub returns : goal.returns
@@ -69,6 +67,6 @@ returns c =
         tautologies = p.tautologies;
         subsumptions = pairs-gone subsumes subsumption_by subsumptions-tie cs none;
         strengthenings = p.strengthenings;
+        covers = p.covers;
       };
-      clauses = c.loop-number.invariant.clauses ∙ sym c.requires.clauses;
     }

@@ -10,6 +10,5 @@ use Rattle.cp_find.proofs.subsumption.next_subsumed.Given as goal
 abbrev pub invariant-loop-number : goal.invariant-loop-number
 invariant-loop-number l = record {
   left : first_some (λ (b : Named). subsumption_by (from_number (first_other l.end b.number) l.cell.clauses) b) l.number-iterator ≡ first_some (subsumption_by l.cell.clauses) l.cell.clauses;
-  clauses : l.others ≡ l.cell.clauses;
   past : IsPast l.cell.variable l.cell.clauses l.reached;
 }

@@ -41,8 +41,8 @@ next_touched-requires c = λ x m.
 pub turn-requires-clause-past : goal.turn-requires-clause-past
 turn-requires-clause-past c =
     let s = c.searches.state in let x = c.in-Some.var in
-    subst (λ (g : Formula). IsPast x (occurrences (left_at g (cursor_of s)).clauses x) c.reached_at-state.result) (sym c.searches.invariant.first)
-    (c.reached_at-state.ensures (left_at c.args.ground.book.first (cursor_of s)).clauses c.searches.invariant.past)
+    subst (λ (g : Formula). IsPast x (occurrences (left_at g (cursor_of s)).clauses x) c.move_to.new.reached) (sym c.searches.invariant.first)
+    (c.move_to.ensures (left_at c.args.ground.book.first (cursor_of s)).clauses c.searches.invariant.past)
 
 pub returns-in-Some-2-clause-swept : goal.returns-in-Some-2-clause-swept
 returns-in-Some-2-clause-swept c =

@@ -10,7 +10,7 @@ invariant-draws g l = record {
   counter : l.claim.counter ≡ l.fn.claim.counter;
   idle : IsIdle l.seat.view;
   draws : DrawsOnly l.fn.claim.view l.claim.view;
-  going : IsGoing l.fn.seat.view l.seat.view l.fn.claim.view.drawn l.claim.view.drawn l.round l.opts.hood l.shift;
+  going : IsGoing l.fn.seat.view l.seat.view l.fn.claim.view.drawn l.claim.view.drawn l.round l.opts.workers l.opts.hood l.shift;
   unstopped : l.shift.stopped ≡ None;
 }
 

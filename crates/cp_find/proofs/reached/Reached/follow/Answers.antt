@@ -7,7 +7,7 @@ use Rattle.cp_find.proofs.reached.Reached.follow.Goals as goal
 use Rattle.cp_find.proofs.reached.Reached.follow.Goals.{in-Strengthen, in-Eliminate, in-Eliminate-2, in-Taut, in-Taut-2, in-Taut-3}
 
 pub returns-then-not-keeps : goal.returns-then-not-keeps
-returns-then-not-keeps c = λ cs next p. c.start.ensures c.args.var _
+returns-then-not-keeps c = λ cs next p. c.restart.ensures c.args.var _
 
 pub returns-else-not-keeps : goal.returns-else-not-keeps
 returns-else-not-keeps c = λ cs next p.

@@ -10,4 +10,5 @@ invariant_of-self c =
       c.self.invariant.0,
       λ rules choice bound.
           silent-by c.self.inside.var c.self.inside.occurrences.items c.args.rules.now c.requires.0 none rules (choice ∙ c.by.ensures.choice) (bound ∙ c.by.ensures.bound),
+      c.self.invariant.2,
     )
