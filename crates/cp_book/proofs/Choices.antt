@@ -2,29 +2,20 @@
 use Rattle.std.proofs.Common.{◌≡◌, ℕ, Bool, false, cond, length, Some, None, Result, Ok, Err, is_err, refl, sym, ◌∙◌, ap}
 use Rattle.std.specs.Prelude.{is_some}
 use Rattle.cp_logic.specs.declared.stop.Stop.TheVariants.{Spent as StopSpent, Refuted as StopRefuted}
-use Rattle.cp_logic.specs.Entries.{Entry, numbered}
-use Rattle.cp_logic.specs.Legality.{is_legal}
+use Rattle.cp_logic.specs.Entries.{Entry}
 use Rattle.cp_logic.specs.Journals.{commits}
 use Rattle.cp_logic.specs.Sweeps.{is_spent}
 use Rattle.cp_book.specs.Empties.{least_empty}
 use Rattle.cp_book.specs.Views.{BookView, current, stop_in}
 use Rattle.cp_book.specs.declared.answers.PostAnswer.{PostAnswer}
-use Rattle.cp_book.specs.declared.answers.PostAnswer.TheVariants.{Refuted as HeldRefuted, Spent as HeldSpent, Numbers as HeldNumbers, Stale as HeldStale}
-use Rattle.cp_book.specs.Answers.{Answer, Posted, Spent, Numbers, Stale, given_answer, unless_empty, passes_numbers, answer_to}
+use Rattle.cp_book.specs.declared.answers.PostAnswer.TheVariants.{Refuted as HeldRefuted, Spent as HeldSpent, Numbers as HeldNumbers}
+use Rattle.cp_book.specs.Answers.{Answer, Posted, given_answer, passes_numbers, answer_to}
 use Rattle.cp_book.proofs.EmptyFacts.{has_empty-least}
 
--- the answer by what the tests give
-abbrev by_tests : BookView → Entry → Bool → Bool → Bool → Answer
-by_tests b e spent passes legal =
-    cond spent (Spent (commits b.posts) e) (cond passes (Numbers (current b).next e) (cond legal (Posted (length b.posts)) (Stale e)))
-
-pub answer-tested : (b : BookView) (e : Entry) (legal : Bool) → least_empty (current b).clauses ≡ None → is_spent b.rules (commits b.posts) ≡ false → passes_numbers (current b) e ≡ false
-    → is_legal (current b) b.rules (numbered (current b).next e) ≡ legal → cond legal (Posted (length b.posts)) (Stale e) ≡ answer_to b e
-answer-tested b e legal none unspent room l =
-    sym (ap (λ o. unless_empty o e (by_tests b e (is_spent b.rules (commits b.posts)) (passes_numbers (current b) e) (is_legal (current b) b.rules (numbered (current b).next e)))) none
-    ∙ ap (λ s. by_tests b e s (passes_numbers (current b) e) (is_legal (current b) b.rules (numbered (current b).next e))) unspent
-    ∙ ap (λ p. by_tests b e false p (is_legal (current b) b.rules (numbered (current b).next e))) room
-    ∙ ap (by_tests b e false false) l)
+-- an entry that passed the tests is posted
+pub answer-tested : (b : BookView) (e : Entry) → least_empty (current b).clauses ≡ None → is_spent b.rules (commits b.posts) ≡ false → passes_numbers (current b) e ≡ false
+    → answer_to b e ≡ Posted (length b.posts)
+answer-tested b e none unspent room = rw (none, unspent, room) refl
 
 -- why it is stopped, by whether there is an empty clause and whether the budget is spent
 pub stop-tested : (b : BookView) (empty spent : Bool) → is_some (least_empty (current b).clauses) ≡ empty → is_spent b.rules (commits b.posts) ≡ spent
@@ -39,4 +30,3 @@ posted-ok (Ok position) a n h p = refl
 posted-ok (Err (HeldRefuted empty entry)) a n h p = cc
 posted-ok (Err (HeldSpent len entry)) a n h p = cc
 posted-ok (Err (HeldNumbers next entry)) a n h p = cc
-posted-ok (Err (HeldStale entry)) a n h p = cc

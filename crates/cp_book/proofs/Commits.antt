@@ -1,5 +1,5 @@
 -- Entries that are no looks: their numbers and legality, and the run that they stand for.
-use Rattle.std.proofs.Common.{◌≡◌, ℕ, ◌+◌, true, false, not, ◌&&◌, List, [], ◌∷◌, ◌++◌, map, length, refl, ◌∙◌, ap, arith}
+use Rattle.std.proofs.Common.{◌≡◌, ℕ, ◌+◌, true, false, List, [], ◌∷◌, ◌++◌, map, length, refl, ◌∙◌, ap, arith}
 use Rattle.std.proofs.lemmas.Bool.{not_from_false, and_from}
 use Rattle.cp_logic.specs.declared.named.Named.{Named}
 use Rattle.cp_logic.specs.declared.settings.Rules.{Rules}
@@ -7,7 +7,7 @@ use Rattle.cp_logic.specs.Literals.{positive, negative}
 use Rattle.cp_logic.specs.Formulas.{Formula, IsFormula, clauses_of, has_empty}
 use Rattle.cp_logic.specs.Rules.{Add, Weaken, State, applied, state_after, IsRun}
 use Rattle.cp_logic.specs.Entries.{Entry, Taut, Subsume, Strengthen, Block, Eliminate, Look, expand, new_clauses, renumbered, numbered, is_look}
-use Rattle.cp_logic.specs.Legality.{fits, is_legal_in, is_legal}
+use Rattle.cp_logic.specs.Legality.{is_legal_in, is_legal}
 use Rattle.cp_logic.proofs.Eliminations.{state_after-append}
 use Rattle.cp_logic.proofs.EntryRuns.{entry-run_in}
 use Rattle.cp_logic.proofs.Complete.{clauses_of-renumbered, length-renumbered}
@@ -70,20 +70,6 @@ count-numbered n (Strengthen by on l new) = refl
 count-numbered n (Block gone l) = refl
 count-numbered n (Eliminate x pos neg new) = length-renumbered n new
 count-numbered n (Look x) = refl
-
--- the numbers of new clauses do not count for legality
-fits-renumbered : (cs : List Named) (bound n x : ℕ) (pos neg new : List Named) → fits cs bound (Eliminate x pos neg (renumbered n new)) ≡ fits cs bound (Eliminate x pos neg new)
-unfolding fits
-fits-renumbered cs bound n x pos neg new = rw (clauses_of-renumbered n new, length-renumbered n new) refl
-
-pub legal-numbered : (f : Formula) (rules : Rules) (n : ℕ) (e : Entry) → is_legal f rules (numbered n e) ≡ is_legal f rules e
-unfolding is_legal is_legal_in fits
-legal-numbered f rules n (Taut gone) = refl
-legal-numbered f rules n (Subsume by gone) = refl
-legal-numbered f rules n (Strengthen by on l new) = refl
-legal-numbered f rules n (Block gone l) = refl
-legal-numbered f rules n (Eliminate x pos neg new) = ap (λ b. not (has_empty f.clauses) && (rules.choice.e && b)) (fits-renumbered f.clauses rules.bound n x pos neg new)
-legal-numbered f rules n (Look x) = refl
 
 -- where no clause is empty, the rest of legality is enough
 pub legal-open : (f : Formula) (rules : Rules) (e : Entry) → has_empty f.clauses ≡ false → is_legal_in f.clauses rules e ≡ true → is_legal f rules e ≡ true

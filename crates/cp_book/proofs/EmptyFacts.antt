@@ -1,5 +1,5 @@
 -- Where the empty clauses are.
-use Rattle.std.proofs.Common.{◌≡◌, ℕ, ◌+◌, ◌<◌, length, drop, get_or, arith, Bool, true, false, cond, not, ◌||◌, List, [], ◌∷◌, ◌++◌, Some, None, refl, sym, ◌∙◌, ap}
+use Rattle.std.proofs.Common.{◌≡◌, ℕ, ◌+◌, ◌<◌, length, drop, get_or, arith, Bool, true, false, cond, not, ◌||◌, List, [], ◌∷◌, ◌++◌, Option, Some, None, refl, sym, ◌∙◌, ap}
 use Rattle.std.specs.Prelude.{is_some, ◌==◌}
 use Rattle.std.specs.Option.{option_map}
 use Rattle.std.specs.List.{Contains, find}
@@ -26,6 +26,13 @@ has_empty-least (c ∷ cs) = go (is_empty c.clause) (has_empty-least cs)
 -- where no clause is empty, there is no least number of one
 pub no_empty-least : (cs : List Named) → least_empty cs ≡ None → has_empty cs ≡ false
 no_empty-least cs e = has_empty-least cs ∙ ap is_some e
+
+pub least-none : (cs : List Named) → has_empty cs ≡ false → least_empty cs ≡ None
+least-none cs h = go (least_empty cs) (sym (has_empty-least cs) ∙ h)
+  where
+    go : (o : Option ℕ) → is_some o ≡ false → o ≡ None
+    go None q = refl
+    go (Some n) q = cc
 
 -- where no clause is empty, the empty ones after a removal and an addition are among the new ones
 pub least_empty-changed : (cs new : List Named) (numbers : List ℕ) → has_empty cs ≡ false → least_empty (without_numbers cs numbers ++ new) ≡ least_empty new

@@ -1,4 +1,3 @@
-pub mod Passes
 pub mod Changes
 pub mod Empties
 pub mod Views

@@ -11,6 +11,4 @@ pub enum PostAnswer {
     Spent { len: u64, entry: Entry },
     /// The entry's new clauses, numbered from `next` on, would pass the last clause number.
     Numbers { next: u64, entry: Entry },
-    /// The entry isn't legal in the current clauses.
-    Stale { entry: Entry },
 }

@@ -1,11 +1,11 @@
 //! The book: a first formula, the rules of a run, and the posts that were made.
 //!
-//! A post takes two steps. `prepare` takes all memory that the post needs, and `post` then takes none, so a refusal for
-//! want of memory comes before anything changes. `post_legal` is the post of one who knows already that the entry is legal.
+//! A post takes two steps. `prepare` takes all memory that the post needs, and `post` then takes none, so that memory is out only
+//! before anything changes. That the entry is legal is a condition of the post, which the search's contract meets.
 //! The first formula is kept only for contracts.
 ghost use Rattle.std.specs.Prelude.{◌≡◌, ◌≤◌, [], ℕ, IsTrue, IsFalse, OnOk, OnErr, IfOk, IfErr, Some, None, Err, length};
 ghost use Rattle.cp_logic.specs.Formulas.{IsFormula};
-ghost use Rattle.cp_logic.specs.Legality.{is_legal, is_legal_in};
+ghost use Rattle.cp_logic.specs.Legality.{is_legal_in};
 ghost use Rattle.cp_logic.specs.Entries.{numbered, is_look};
 ghost use Rattle.cp_logic.specs.Journals.{IsLegalJournal, commits};
 ghost use Rattle.cp_logic.specs.Pairs.{pairs_of};
@@ -17,7 +17,6 @@ ghost use Rattle.cp_book.specs.Answers.{answer_to, given_answer, passes_numbers}
 
 use crate::answers::PostAnswer;
 use crate::changes::{apply, empty_added, first_empty, seconds_of_added, weakened_count};
-use crate::legality::is_legal;
 use cp_logic::{Clause, Entry, Formula, Journal, Post, Rules, Stack, Stop};
 use std::alloc::{AllocError, Global};
 use std::marker::Model;
@@ -105,29 +104,12 @@ impl Book {
         Ok(())
     }
 
-    /// Posts the entry, its new clauses numbered from the book's next number on, and answers the position of the post.
+    /// Posts an entry that is legal if no clause is empty, its new clauses numbered from the book's next number on, and answers the
+    /// position of the post. It takes no memory, and the time of the entry's own clauses.
     ///
-    /// It takes no memory. Each refusal hands the entry back and leaves the book as it was. They come in this order:
-    /// `Refuted` where a current clause is empty, `Spent` where the commits number the budget, `Numbers` where a new clause
-    /// would pass the last clause number, `Stale` where the entry isn't legal. A blocked clause and an elimination are tested
-    /// on all current clauses, since the book has no occurrence lists; for the other entries those that they name are enough.
+    /// Each refusal hands the entry back and leaves the book as it was. They come in this order: `Refuted` if a current clause is
+    /// empty, `Spent` if the commits number the budget, `Numbers` if a new clause would pass the last clause number.
     pub fn post(&mut self, worker: u32, round: u32, entry: Entry) -> Result<u64, PostAnswer>
-        requires commit { IsFalse (is_look (entry_of entry)) }
-        requires prepared { self.old.prepared ≡ Some (entry_of entry) }
-        ensures answer { given_answer result ≡ answer_to self.old (entry_of entry) }
-        ensures ok { OnOk result (self.new ≡ with_post self.old worker round (entry_of entry)) }
-        ensures err { OnErr result (self.new ≡ self.old) }
-    {
-        let entry = self.unless_stopped(entry)?;
-        if !self.allows(&entry) {
-            return Err(PostAnswer::Stale { entry });
-        }
-        Ok(self.append(worker, round, entry))
-    }
-
-    /// Posts the entry as `post` does, where it is known to be legal wherever no clause is empty: nothing of that is tested, so the post
-    /// takes the time of the entry's own clauses. It is never `Stale`.
-    pub fn post_legal(&mut self, worker: u32, round: u32, entry: Entry) -> Result<u64, PostAnswer>
         requires commit { IsFalse (is_look (entry_of entry)) }
         requires prepared { self.old.prepared ≡ Some (entry_of entry) }
         requires legal { IsTrue (is_legal_in (current self.old).clauses self.old.rules (numbered (current self.old).next (entry_of entry))) }
@@ -259,15 +241,6 @@ impl Book {
             return Err(PostAnswer::Numbers { next, entry });
         }
         Ok(entry)
-    }
-
-    // Whether the entry is legal in the current clauses, of which none is empty.
-    fn allows(&self, entry: &Entry) -> bool
-        requires commit { IsFalse (is_look (entry_of entry.now)) }
-        requires open_still { least_empty (current self.now).clauses ≡ None }
-        ensures { result ≡ is_legal (current self.now) self.now.rules (entry_of entry.now) }
-    {
-        is_legal(&self.parts.formula, &self.parts.rules, entry)
     }
 
     // Appends the post of an entry that is legal, and changes the clauses and the stack.

@@ -11,7 +11,9 @@ use Rattle.cp_logic.specs.Sweeps.{is_spent}
 use Rattle.cp_logic.proofs.Locals.{legal_in-local}
 use Rattle.cp_book.specs.Answers.{passes_numbers}
 use Rattle.cp_book.specs.Views.{BookView, current, stop_in, with_post as book_with}
+use Rattle.cp_book.proofs.Choices.{answer-tested}
 use Rattle.cp_book.proofs.Commits.{numbered-again, count-numbered}
+use Rattle.cp_book.proofs.EmptyFacts.{least-none}
 use Rattle.cp_occ.specs.Changes.{lists_after}
 use Rattle.cp_yard.specs.declared.yard.Receipt.{Receipt}
 use Rattle.cp_yard.specs.Views.{Base, Note, GotTurn, MetTurn, SeatView, base_of, noted, with_turn, without_turn, with_post}
@@ -22,7 +24,7 @@ use Rattle.cp_hood.specs.Seats.{GoesOn, met_turns, noted_all}
 use Rattle.cp_hood.specs.Commits.{IsCommit, IsHoodAfter, IsSameHood, IsRefusal, IsTaken, post_after}
 use Rattle.cp_hood.proofs.Centred.{legal_in-numbered}
 use Rattle.cp_hood.proofs.Following.{centre-occurrences}
-use Rattle.cp_hood.proofs.Turns.{GoesOn-met, GoesOn-ended, GoesOn-posted, HoldsJust-met, HoldsJust-ended, HoldsJust-posted, posts-legal}
+use Rattle.cp_hood.proofs.Turns.{GoesOn-met, GoesOn-ended, GoesOn-posted, HoldsJust-met, HoldsJust-ended, HoldsJust-posted}
 
 -- where there is no error, what holds without one
 pub on-ok : {A B X : Type 0} (r : Result A B) → is_err r ≡ false → OnOk r X → X
@@ -126,7 +128,6 @@ module _ (b c : BookView) (e d : Entry) (h : HoodView) (rules : Rules) (is : IsH
     prepared = ready;
     numbered = numbers ∙ numbered-again (current b).next e ∙ ap (numbered (current b).next) (sym numbers);
     legal = legal-numbered;
-    answer = posts-legal (record b { prepared = c.prepared }) d filled unspent
-        (ap (passes_numbers (current b)) numbers ∙ ap (λ n. nat_lt number_limit ((current b).next + n)) (count-numbered (current b).next e) ∙ fits)
-        (legal_in-numbered (current b).clauses b.rules (current b).next d ∙ legal-numbered);
+    answer = answer-tested (record b { prepared = c.prepared }) d (least-none (current b).clauses filled) unspent
+        (ap (passes_numbers (current b)) numbers ∙ ap (λ n. nat_lt number_limit ((current b).next + n)) (count-numbered (current b).next e) ∙ fits);
   })

@@ -1,19 +1,8 @@
--- A seat that tries the turn, has it and ends it; and when a book posts an entry.
-use Rattle.std.proofs.Common.{◌≡◌, ℕ, ◌<◌, ◌≤◌, true, false, List, [], ◌∷◌, ◌++◌, length, get_or, Some, None, append_assoc, append-nil, refl, sym, ◌∙◌, ap, subst, arith}
-use Rattle.std.specs.Prelude.{is_some}
+-- A seat that tries the turn, has it and ends it.
+use Rattle.std.proofs.Common.{◌≡◌, ℕ, ◌<◌, ◌≤◌, List, [], ◌∷◌, ◌++◌, length, get_or, append_assoc, append-nil, refl, sym, ◌∙◌, ap, subst, arith}
 use Rattle.std.specs.List.{All}
 use Rattle.std.proofs.lemmas.List.{map-append, get_or-map, length-map}
-use Rattle.cp_logic.specs.Formulas.{Formula, has_empty}
-use Rattle.cp_logic.specs.Entries.{Entry, numbered}
-use Rattle.cp_logic.specs.Journals.{Post, commits}
-use Rattle.cp_logic.specs.Legality.{is_legal_in}
-use Rattle.cp_logic.specs.Sweeps.{is_spent}
-use Rattle.cp_book.specs.Answers.{Posted, answer_to, passes_numbers}
-use Rattle.cp_book.specs.Empties.{least_empty}
-use Rattle.cp_book.specs.Views.{BookView, current}
-use Rattle.cp_book.proofs.EmptyFacts.{has_empty-least}
-use Rattle.cp_book.proofs.Commits.{legal-open}
-use Rattle.cp_book.proofs.Choices.{answer-tested}
+use Rattle.cp_logic.specs.Journals.{Post}
 use Rattle.cp_occ.specs.Cells.{CellView, variables_of, lists_of}
 use Rattle.cp_occ.specs.Changes.{lists_after}
 use Rattle.cp_yard.specs.Views.{Note, GotTurn, MetTurn, SeatView, noted, with_turn, without_turn, with_post}
@@ -74,19 +63,3 @@ module _ (v : SeatView) (met : List ℕ) where
     range = in_range v.base.formula.variables old new vs h.range;
     held = held-follow p.entry v.held old new h.held vs ls;
   }
-
--- ---- the book
-
--- where no clause is empty, there is no least number of one
-pub least-none : (f : Formula) → has_empty f.clauses ≡ false → least_empty f.clauses ≡ None
-least-none f h = go (least_empty f.clauses) (sym (has_empty-least f.clauses) ∙ h)
-  where
-    go : (o : Rattle.std.proofs.Common.Option ℕ) → is_some o ≡ false → o ≡ None
-    go None h = refl
-    go (Some n) h = cc
-
--- it posts a legal entry, unless it is stopped for all or for this one
-pub posts-legal : (b : BookView) (e : Entry) → has_empty (current b).clauses ≡ false → is_spent b.rules (commits b.posts) ≡ false → passes_numbers (current b) e ≡ false
-    → is_legal_in (current b).clauses b.rules (numbered (current b).next e) ≡ true → answer_to b e ≡ Posted (length b.posts)
-posts-legal b e filled unspent fits legal =
-    sym (answer-tested b e true (least-none (current b) filled) unspent fits (legal-open (current b) b.rules (numbered (current b).next e) filled legal))

@@ -135,7 +135,7 @@ fn post_under_turn(
     book.is_legal();
     hood.is_hood();
     hood.apply(&entry, prepared);
-    if book.post_legal(seat.number(), round, entry).is_err() {
+    if book.post(seat.number(), round, entry).is_err() {
         unreachable!()
     }
     yard.end_turn_with(seat, book)

@@ -16,16 +16,13 @@ use Rattle.cp_logic.specs.Sweeps.{is_spent}
 use Rattle.cp_book.specs.Answers.{Posted, answer_to, passes_numbers}
 use Rattle.cp_book.specs.Empties.{least_empty}
 use Rattle.cp_book.specs.Views.{BookView, current, stop_in, with_post}
-use Rattle.cp_book.proofs.EmptyFacts.{has_empty-least}
+use Rattle.cp_book.proofs.Choices.{answer-tested}
+use Rattle.cp_book.proofs.EmptyFacts.{least-none}
 use Rattle.cp_occ.specs.Cells.{CellView, variables_of, lists_of}
 use Rattle.cp_occ.specs.Changes.{lists_after, AreCellsOf}
 use Rattle.cp_occ.proofs.Posted.{cells-after}
 use Rattle.cp_sweep.specs.Marks.{with_marks}
 use Rattle.cp_sweep.specs.Cursor.{Cursor, Turn, turn_for, touched_by, after_post, sweep_post}
-
-no_least : (o : Option ℕ) → is_some o ≡ false → o ≡ None
-no_least None h = refl
-no_least (Some n) h = cc
 
 -- where a book isn't stopped, no clause is empty and the budget isn't spent
 pub goes-on : (b : BookView) → stop_in b ≡ None → (has_empty (current b).clauses ≡ false) × (is_spent b.rules (commits b.posts) ≡ false)
@@ -36,13 +33,11 @@ goes-on b h = go (has_empty (current b).clauses) (is_spent b.rules (commits b.po
     go false true t = cc
     go false false t = (refl, refl)
 
--- the book takes a legal entry whose numbers fit
-pub takes : (b : BookView) (e : Entry) → stop_in b ≡ None → passes_numbers (current b) e ≡ false → is_legal (current b) b.rules (numbered (current b).next e) ≡ true
-    → answer_to b e ≡ Posted (length b.posts)
-takes b e goes fits legal =
+-- the book takes an entry whose numbers fit
+pub takes : (b : BookView) (e : Entry) → stop_in b ≡ None → passes_numbers (current b) e ≡ false → answer_to b e ≡ Posted (length b.posts)
+takes b e goes fits =
     let on = goes-on b goes in
-    let empty : least_empty (current b).clauses ≡ None = no_least (least_empty (current b).clauses) (sym (has_empty-least (current b).clauses) ∙ on.0) in
-    rw (empty, on.1, fits, legal) refl
+    answer-tested b e (least-none (current b).clauses on.0) on.1 fits
 
 -- whether the numbers fit
 pub fits-from : (f : Formula) (e : Entry) → passes_numbers f e ≡ false → nat_le (f.next + length (new_clauses e)) number_limit ≡ true

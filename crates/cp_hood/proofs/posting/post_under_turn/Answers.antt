@@ -17,11 +17,11 @@ pub end_turn_with-requires-clause-post : goal.end_turn_with-requires-clause-post
 end_turn_with-requires-clause-post c =
     let b = c.args.book in let e = entry_of c.args.entry in
     let p : Post = record { worker = c.args.seat.now.view.number; round = c.args.round; entry = e } in
-    let ok = on-ok c.post_legal.result (posted-ok c.post_legal.result (answer_to b e) (length b.posts) c.post_legal.ensures.answer c.requires.taken.answer) c.post_legal.ensures.ok in (
+    let ok = on-ok c.post.result (posted-ok c.post.result (answer_to b e) (length b.posts) c.post.ensures.answer c.requires.taken.answer) c.post.ensures.ok in (
       b.posts,
       p,
       c.requires.turn,
-      posts-made b c.post_legal.new.self e c.args.seat.now.view.number c.number.result c.args.round ok c.number.ensures c.requires.taken.numbered,
+      posts-made b c.post.new.self e c.args.seat.now.view.number c.number.result c.args.round ok c.number.ensures c.requires.taken.numbered,
       refl,
       HoldsAll-hood (current b) b.rules e c.args.hood.now c.is_hood.ensures c.requires.clauses c.requires.at c.requires.taken.legal c.args.seat.now.view.held c.requires.held,
     )
@@ -30,14 +30,14 @@ pub returns-clause-position : goal.returns-clause-position
 returns-clause-position c =
     let b = c.args.book in let e = entry_of c.args.entry in
     let p : Post = record { worker = c.args.seat.now.view.number; round = c.args.round; entry = e } in
-    let ok = on-ok c.post_legal.result (posted-ok c.post_legal.result (answer_to b e) (length b.posts) c.post_legal.ensures.answer c.requires.taken.answer) c.post_legal.ensures.ok in
+    let ok = on-ok c.post.result (posted-ok c.post.result (answer_to b e) (length b.posts) c.post.ensures.answer c.requires.taken.answer) c.post.ensures.ok in
     c.end_turn_with.ensures.position b.posts p c.requires.turn
-    (posts-made b c.post_legal.new.self e c.args.seat.now.view.number c.number.result c.args.round ok c.number.ensures c.requires.taken.numbered)
+    (posts-made b c.post.new.self e c.args.seat.now.view.number c.number.result c.args.round ok c.number.ensures c.requires.taken.numbered)
 
 pub returns-clause-seat : goal.returns-clause-seat
 returns-clause-seat c =
     let b = c.args.book in let e = entry_of c.args.entry in
     let p : Post = record { worker = c.args.seat.now.view.number; round = c.args.round; entry = e } in
-    let ok = on-ok c.post_legal.result (posted-ok c.post_legal.result (answer_to b e) (length b.posts) c.post_legal.ensures.answer c.requires.taken.answer) c.post_legal.ensures.ok in
+    let ok = on-ok c.post.result (posted-ok c.post.result (answer_to b e) (length b.posts) c.post.ensures.answer c.requires.taken.answer) c.post.ensures.ok in
     c.end_turn_with.ensures.seat b.posts p c.requires.turn
-    (posts-made b c.post_legal.new.self e c.args.seat.now.view.number c.number.result c.args.round ok c.number.ensures c.requires.taken.numbered)
+    (posts-made b c.post.new.self e c.args.seat.now.view.number c.number.result c.args.round ok c.number.ensures c.requires.taken.numbered)

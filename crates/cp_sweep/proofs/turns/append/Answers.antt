@@ -7,5 +7,5 @@ use Rattle.cp_sweep.proofs.turns.append.Goals as goal
 
 pub unreachable-requires : goal.unreachable-requires
 unreachable-requires c =
-    false≢true (sym (posted-ok c.post_legal.result (answer_to c.args.book.now (entry_of c.args.entry)) (length c.args.book.now.posts) c.post_legal.ensures.answer c.requires.taken)
+    false≢true (sym (posted-ok c.post.result (answer_to c.args.book.now (entry_of c.args.entry)) (length c.args.book.now.posts) c.post.ensures.answer c.requires.taken)
     ∙ sym c.is_err.ensures.value ∙ c.if-is_err.true)

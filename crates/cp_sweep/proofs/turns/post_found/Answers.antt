@@ -50,10 +50,9 @@ append-requires-clause-legal c =
 
 pub append-requires-clause-taken : goal.append-requires-clause-taken
 append-requires-clause-taken c =
-    let b = c.args.state.now.book in let f = current b in let e = entry_of c.args.entry in
-    let legal = ap (λ d. is_legal f b.rules d) (sym (first-numbered f b.rules c.args.state.now.mark e c.requires.found)) ∙ first-legal f b.rules c.args.state.now.mark e c.requires.found in
+    let b = c.args.state.now.book in let e = entry_of c.args.entry in
     ap (λ (d : BookView). answer_to d e) c.prepare.ensures.same
-    ∙ takes b e c.requires.goes_on (sym c.passes_numbers.ensures ∙ c.if-passes_numbers.false) legal
+    ∙ takes b e c.requires.goes_on (sym c.passes_numbers.ensures ∙ c.if-passes_numbers.false)
     ∙ ap (λ (d : BookView). Posted (length d.posts)) (sym c.prepare.ensures.same)
 
 pub returns-clause-turn : goal.returns-clause-turn

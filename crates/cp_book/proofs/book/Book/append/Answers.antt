@@ -1,5 +1,4 @@
 use Rattle.std.proofs.Common.{◌≡◌, ◌+◌, ◌≤◌, Some, length, sym, ◌∙◌, ap, subst}
-use Rattle.std.specs.Option.{option_map}
 use Rattle.cp_logic.specs.Formulas.{clauses_of}
 use Rattle.cp_logic.specs.Pairs.{pairs_of}
 use Rattle.cp_logic.specs.Rules.{state_after}

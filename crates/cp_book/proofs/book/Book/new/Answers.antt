@@ -1,5 +1,4 @@
-use Rattle.std.proofs.Common.{◌≡◌, ap, sym, subst}
-use Rattle.cp_book.specs.declared.book.Parts.{Parts}
+use Rattle.std.proofs.Common.{sym, subst}
 use Rattle.cp_book.specs.Parts.{HasLedger, HasRoom}
 use Rattle.cp_book.proofs.Ledger.{IsLedger-start}
 use Rattle.cp_book.proofs.book.Book.new.Goals as goal
