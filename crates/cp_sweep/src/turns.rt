@@ -2,10 +2,10 @@
 //!
 //! A mark goes round the variables from 1 up and begins again after the last. Where the search gives an entry, the book takes it
 //! and the cells follow, and the mark stays for a next search; where it gives nothing, the mark goes on. What applies at a variable
-//! is decided by its clauses, so the mark passes over each variable whose clauses stand as the last search there left them, be it one
-//! before the sweep of which the cell tells, and the sweep ends once that is so of all. A round takes the time of its searches: to search each variable again until a whole round
-//! gives nothing would take that of all clauses for each few entries. While the mark stays, each search goes on behind what the last
-//! one found there.
+//! is decided by its clauses, so the mark passes over each variable whose clauses stand as the last search there left them, also if that
+//! was before the sweep, as the cell then tells; and the sweep ends once that is so of all. A round takes the time of its searches: to
+//! search each variable again until a whole round gives nothing would take that of all clauses for each few entries. While the mark
+//! stays, each search goes on after what the last one found there.
 
 ghost use Rattle.std.specs.Prelude.{◌≡◌, ◌≤◌, ◌<◌, ◌+◌, ◌&&◌, ℕ, List, true, nat_lt, IfOk, OnOk, IsFalse, IsTrue, Some, None, length};
 ghost use Rattle.std.specs.Option.{option_map};
