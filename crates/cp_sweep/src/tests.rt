@@ -1,11 +1,9 @@
 //! Sweeps of small formulas, from the start and after a post, with their entries and what is left.
 
-ghost use Rattle.std.specs.Prelude.{◌≡◌, ◌≤◌, ◌^◌, IfOk, IsFalse, nat_lt};
+ghost use Rattle.std.specs.Prelude.{◌≡◌, ◌≤◌, ◌^◌, nat_lt};
 ghost use Rattle.std.specs.List.{list_all};
 ghost use Rattle.cp_logic.specs.Literals.{variable_of};
-ghost use Rattle.cp_logic.specs.Entries.{is_look};
 ghost use Rattle.cp_logic.specs.Journals.{number_limit};
-ghost use Rattle.cp_logic.specs.Views.{entry_of};
 
 use crate::{Swept, simplify, sweep};
 use cp_book::Book;
@@ -188,43 +186,40 @@ fn numbers_end(rt: HostRuntime) -> Result<(), Fail> {
     assert_row(&rt, rt.alloc(), &row, 1_099_511_627_774)
 }
 
-// The entry by which the last of these clauses subsumes the second.
-fn subsumption(alloc: Global) -> Result<Entry, AllocError>
-    ensures { IfOk result (λ e. IsFalse (is_look (entry_of e))) }
-{
-    let by = Named {
-        number: 4,
-        clause: clause(alloc, &[6])?,
-    };
-    let gone = Named {
-        number: 2,
-        clause: clause(alloc, &[4, 6])?,
-    };
-    Ok(Entry::Subsume { by, gone })
-}
-
-fn post_subsumption(rt: &impl Abort, alloc: Global, book: &mut Book) -> Result<(), AllocError>
+// Posts the clause under the number, as worker 1 in round 1, if it is a tautology.
+fn post_tautology(book: &mut Book, number: u64) -> Result<bool, AllocError>
     requires { book.old.first.next ≤ number_limit }
     ensures { book.new.first.next ≤ number_limit }
 {
-    let entry = subsumption(alloc)?;
+    if !book.rules().choice.t {
+        return Ok(false);
+    }
+    let Some(clause) = book.clauses().get(number) else {
+        return Ok(false);
+    };
+    if !clause.is_tautology() {
+        return Ok(false);
+    }
+    let clause = clause.again()?;
+    let entry = Entry::Taut {
+        gone: Named { number, clause },
+    };
     book.prepare(&entry)?;
-    assert!(rt; book.post(1, 1, entry).is_ok());
-    Ok(())
+    Ok(book.post(1, 1, entry).is_ok())
 }
 
-// What a sweep does behind the subsumption.
+// What a sweep does after the tautology.
 fn assert_gone_on(rt: &impl Abort, alloc: Global, book: Book) -> Result<(), Fail>
     requires { book.first.next ≤ number_limit }
 {
     let cells = Cells::of_formula(alloc, book.clauses())?;
     let swept = sweep(alloc, Ground { book, cells })?;
-    assert_swept(rt, alloc, &swept, "s4,2 t1 s4,3 ", 1, None)
+    assert_swept(rt, alloc, &swept, "t3 s1,2 s4,1 ", 1, None)
 }
 
 #[test]
 fn a_journal_is_gone_on_from(rt: HostRuntime) -> Result<(), Fail> {
-    let clauses: [&[u8]; 4] = [&[2, 3, 4], &[4, 6], &[6, 4], &[6]];
+    let clauses: [&[u8]; 4] = [&[4, 6], &[6, 4], &[2, 3, 4], &[6]];
     let formula = formula_of(rt.alloc(), &clauses, 1)?;
     if formula.next() > 1_099_511_627_776 {
         return Ok(());
@@ -235,6 +230,6 @@ fn a_journal_is_gone_on_from(rt: HostRuntime) -> Result<(), Fail> {
         budget: 0,
     };
     let mut book = Book::new(rt.alloc(), formula, rules)?;
-    post_subsumption(&rt, rt.alloc(), &mut book)?;
+    assert!(rt; post_tautology(&mut book, 3)?);
     assert_gone_on(&rt, rt.alloc(), book)
 }
