@@ -3,3 +3,4 @@ pub mod EmptyFacts
 pub mod Commits
 pub mod Ledger
 pub mod Choices
+pub mod Tautologies
