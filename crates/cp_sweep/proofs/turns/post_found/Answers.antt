@@ -1,5 +1,5 @@
 use Rattle.std.proofs.Common.{List, length, sym, ◌∙◌, ap, subst, arith}
-use Rattle.cp_logic.specs.Legality.{is_legal, is_legal_in}
+use Rattle.cp_logic.specs.Legality.{is_legal_in}
 use Rattle.cp_logic.specs.Entries.{numbered}
 use Rattle.cp_logic.specs.Journals.{folded}
 use Rattle.cp_logic.specs.Views.{entry_of}

@@ -10,7 +10,7 @@ use Rattle.cp_sweep.proofs.turns.simplify.Goals as goal
 pub sweep-requires-clause-cells : goal.sweep-requires-clause-cells
 sweep-requires-clause-cells c =
     let made = c.in_ok-cells.ensures in
-    subst (λ (b : BookView). AreCellsOf (folded b.first b.posts).formula c.in_ok-cells.cells.items) (sym c.in_ok-book.ensures.book)
+    subst (λ (b : BookView). AreCellsOf (folded b.first b.posts).formula c.in_ok-cells.cells.items) (sym c.in_ok-book.ensures)
     (cells-start c.args.formula.formula c.in_ok-cells.cells.items (record { variables = made.variables; lists = made.clauses }))
 
 pub returns-clause-swept : goal.returns-clause-swept
@@ -20,5 +20,5 @@ returns-clause-swept c =
     (λ s. IsSweptAfter b.first b.rules b.posts s.journal.items s.formula.formula s.stopped)
     (λ s. IsSwept f rules s.journal.items s.formula.formula s.stopped)
     (λ s h. swept-first f rules s.journal.items s.formula.formula s.stopped
-    (subst (λ (d : BookView). IsSweptAfter d.first d.rules d.posts s.journal.items s.formula.formula s.stopped) c.in_ok-book.ensures.book h))
+    (subst (λ (d : BookView). IsSweptAfter d.first d.rules d.posts s.journal.items s.formula.formula s.stopped) c.in_ok-book.ensures h))
     c.sweep.ensures.swept
