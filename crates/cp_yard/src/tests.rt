@@ -1,14 +1,11 @@
 //! A yard over three variables, with ample memory: whose the locks and the turn are, and what the last seat leaves.
-ghost use Rattle.std.specs.Prelude.{◌≡◌, ℕ, ◌+◌, ◌≤◌, [], ◌∷◌, length, None, Some, IfOk, IfSome, IsTrue, IsFalse};
-ghost use Rattle.cp_logic.specs.Clauses.{clause_of};
-ghost use Rattle.cp_logic.specs.Entries.{is_look, variables_of};
-ghost use Rattle.cp_logic.specs.Views.{entry_of};
+ghost use Rattle.std.specs.Prelude.{◌≡◌, ℕ, ◌+◌, ◌≤◌, [], length, None, Some, IfOk, IfSome, IsTrue};
 ghost use Rattle.cp_yard.specs.Views.{base_of, unlocked};
 ghost use Rattle.cp_yard.specs.Rows.{HasThree, Fits, IsSameSeat};
 
 use crate::{Receipt, Seat, Yard};
 use cp_book::Book;
-use cp_logic::{Choice, Clause, Entry, Formula, Lit, Named, NamedList, Rules};
+use cp_logic::{Choice, Clause, Entry, Formula, Lit, Named, Rules};
 use cp_occ::Cells;
 use std::alloc::{AllocError, Global};
 use std::process::Abort;
@@ -16,22 +13,15 @@ use std::test::Fail;
 
 const RULES: Rules = Rules {
     choice: Choice {
-        t: false,
+        t: true,
         s: false,
         x: false,
         b: false,
-        e: true,
+        e: false,
     },
     bound: 0,
     budget: 0,
 };
-
-fn pair(alloc: Global, first: Lit, second: Lit) -> Result<Clause, AllocError>
-    ensures { IfOk result (λ c. c ≡ clause_of (first ∷ second ∷ [])) }
-{
-    let lits = [first, second];
-    Clause::from_lits(alloc, lits.as_slice())
-}
 
 // Adds the clause under the next number, where that and its variables are in range.
 fn add(formula: &mut Formula, clause: Clause) -> Result<(), AllocError>
@@ -43,18 +33,23 @@ fn add(formula: &mut Formula, clause: Clause) -> Result<(), AllocError>
     Ok(())
 }
 
-// The clauses {1, 2} and {-1, 3}.
+// The clauses {1, 2}, {-1, 3} and {1, -1, 2, 3}.
 fn formula_of(alloc: Global) -> Result<Formula, AllocError>
     ensures { IfOk result (λ f. f.formula.variables ≡ 3) }
 {
+    let (one, two, three) = (Lit::new(1, true), Lit::new(2, true), Lit::new(3, true));
     let mut formula = Formula::new(alloc, 3, 1);
     add(
         &mut formula,
-        pair(alloc, Lit::new(1, true), Lit::new(2, true))?,
+        Clause::from_lits(alloc, [one, two].as_slice())?,
     )?;
     add(
         &mut formula,
-        pair(alloc, Lit::new(1, false), Lit::new(3, true))?,
+        Clause::from_lits(alloc, [one.negated(), three].as_slice())?,
+    )?;
+    add(
+        &mut formula,
+        Clause::from_lits(alloc, [one, one.negated(), two, three].as_slice())?,
     )?;
     Ok(formula)
 }
@@ -70,28 +65,6 @@ fn yard_of(alloc: Global) -> Result<(Yard, Seat), AllocError>
     let book = Book::new(alloc, formula_of(alloc)?, RULES)?;
     let cells = Cells::of_formula(alloc, book.clauses())?;
     Yard::new(alloc, book, cells)
-}
-
-fn one(alloc: Global, number: u64, first: Lit, second: Lit) -> Result<NamedList, AllocError>
-    ensures { IfOk result (λ l. l.items ≡ record { number = number; clause = clause_of (first ∷ second ∷ []) } ∷ []) }
-{
-    let mut list = NamedList::new(alloc);
-    let clause = pair(alloc, first, second)?;
-    list.push(Named { number, clause })?;
-    Ok(list)
-}
-
-// The elimination of 1, whose resolvent is {2, 3}.
-fn elimination(alloc: Global) -> Result<Entry, AllocError>
-    ensures variables { IfOk result (λ e. variables_of (entry_of e) ≡ 1 ∷ 2 ∷ 3 ∷ []) }
-    ensures commit { IfOk result (λ e. IsFalse (is_look (entry_of e))) }
-{
-    Ok(Entry::Eliminate {
-        var: 1,
-        pos: one(alloc, 1, Lit::new(1, true), Lit::new(2, true))?,
-        neg: one(alloc, 2, Lit::new(1, false), Lit::new(3, true))?,
-        new: one(alloc, 3, Lit::new(2, true), Lit::new(3, true))?,
-    })
 }
 
 // Tries the locks of 1, 2 and 3.
@@ -142,24 +115,38 @@ fn unlock_all(yard: &Yard, seat: &mut Seat, cells: &mut Cells) -> bool
         && unlock_last(yard, seat, cells, 1)
 }
 
-// Posts the entry, ends the turn, and gives the locks back with the cells of the book's clauses.
+// Posts that the third clause is a tautology, if it is one, ends the turn, and gives the locks back with the cells of the book's clauses.
 fn post_and_unlock(
     alloc: Global,
     yard: &Yard,
     seat: &mut Seat,
     book: Book,
-    entry: Entry,
 ) -> Result<Option<Receipt>, AllocError>
     requires table { seat.old.table ≡ yard.now.table }
     requires variables { (yard.now.base.formula.variables ≡ 3) × (seat.old.view.base ≡ yard.now.base) }
     requires turn { (base_of book ≡ seat.old.view.base) × (seat.old.view.turn ≡ Some book.posts) }
     requires held { HasThree seat.old.view.held }
-    requires entry { (variables_of (entry_of entry) ≡ 1 ∷ 2 ∷ 3 ∷ []) × IsFalse (is_look (entry_of entry)) }
     ensures table { IfOk result (λ o. IfSome o (λ r. seat.new.table ≡ seat.old.table)) }
     ensures same { IfOk result (λ o. IfSome o (λ r. IsSameSeat seat.old.view seat.new.view)) }
     ensures nothing { IfOk result (λ o. IfSome o (λ r. (seat.new.view.held ≡ []) × (seat.new.view.turn ≡ None))) }
 {
     let mut book = book;
+    if !book.rules().choice.t {
+        return Ok(None);
+    }
+    let Some(clause) = book.clauses().get(3) else {
+        return Ok(None);
+    };
+    if !clause.is_tautology() {
+        return Ok(None);
+    }
+    if !clause.is_within(3) {
+        return Ok(None);
+    }
+    let clause = clause.again()?;
+    let entry = Entry::Taut {
+        gone: Named { number: 3, clause },
+    };
     book.prepare(&entry)?;
     let Ok(_position) = book.post(seat.number(), 1, entry) else {
         return Ok(None);
@@ -188,7 +175,6 @@ fn assert_receipt(rt: &impl Abort, receipt: Receipt, position: u64) {
 
 #[test]
 fn the_turn_goes_from_seat_to_seat(rt: HostRuntime) -> Result<(), Fail> {
-    let entry = elimination(rt.alloc())?;
     let (yard, mut zero) = yard_of(rt.alloc())?;
     let mut first = yard.split(&mut zero);
     let mut second = yard.split(&mut zero);
@@ -206,7 +192,7 @@ fn the_turn_goes_from_seat_to_seat(rt: HostRuntime) -> Result<(), Fail> {
         panic!(rt; "the first seat has the turn");
     };
     assert_number(&rt, met.by, 1);
-    let Some(receipt) = post_and_unlock(rt.alloc(), &yard, &mut first, book, entry)? else {
+    let Some(receipt) = post_and_unlock(rt.alloc(), &yard, &mut first, book)? else {
         panic!(rt; "the entry is legal");
     };
     assert_receipt(&rt, receipt, 0);
@@ -239,14 +225,14 @@ fn locks_are_met_until_they_are_given_back(rt: HostRuntime) -> Result<(), Fail> 
         panic!(rt; "the lock of 1 is free");
     };
     assert_number(&rt, one.var(), 1);
-    assert_count(&rt, one.len(), 2);
-    assert_count(&rt, three.len(), 1);
+    assert_count(&rt, one.len(), 3);
+    assert_count(&rt, three.len(), 2);
     yard.unlock(&mut second, 1, one);
     yard.unlock(&mut second, 3, three);
     let Ok(centre) = yard.try_lock(&mut first, 1) else {
         panic!(rt; "the lock of 1 is free again");
     };
-    assert_count(&rt, centre.len(), 2);
+    assert_count(&rt, centre.len(), 3);
     yard.unlock(&mut first, 1, centre);
     yard.join(&mut zero, first);
     yard.join(&mut zero, second);
