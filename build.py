@@ -165,15 +165,16 @@ def take_lock(path):
 class Proof:
     """The proof of one crate under way."""
 
-    def __init__(self, crate, below, jobs, is_first, lock):
+    def __init__(self, crate, below, jobs, rank, lock):
         self.crate, self.jobs, self.lock, self.begun = crate, jobs, lock, time.time()
         self.functions, self.rest, self.last = "", b"", collections.deque(maxlen=SHOWN)
         # (a program is linked by running it: with a word that is no command it does nothing and ends with 64)
         words, self.wanted = (["run", "--jobs", str(jobs), "--", "nothing"], 64) if crate == "copro" else (["lib", "--jobs", str(jobs)], 0)
         folder = f"{TOP}/crates/{crate}" if crate == "copro" else make_tree(crate, below)
-        # (the longest chain of crates decides when all is done, so the processors serve its crate first)
-        how = {"stdin": subprocess.DEVNULL, "stdout": subprocess.PIPE, "stderr": subprocess.STDOUT, "start_new_session": True}
-        self.process = subprocess.Popen(["nice", "-n", "0" if is_first else "10", "rt", *words], cwd=folder, **how)
+        # (a group of its own, so that all of it can be ended; with setsid Linux would share the processors out evenly among the proofs,
+        # whatever their rank)
+        how = {"stdin": subprocess.DEVNULL, "stdout": subprocess.PIPE, "stderr": subprocess.STDOUT, "preexec_fn": os.setpgrp}
+        self.process = subprocess.Popen(["nice", "-n", str(rank), "rt", *words], cwd=folder, **how)
 
     def read(self):
         """Returns the lines that came, none at the end."""
@@ -256,22 +257,30 @@ class Build:
         return sorted(found, key=lambda it: (-self.ahead[it], it))
 
     def start_ready(self):
-        for crate in self.ready():
+        ready = self.ready()
+        for place, crate in enumerate(ready):
             free = self.places - sum(it.jobs for it in self.running.values())
             if free < 1:
                 return
             # (rt itself keeps others out of the program's folder)
             lock = None if crate == "copro" else take_lock(f"{TOP}/crates/{crate}")
             if lock is not None or crate == "copro":
-                self.start(crate, free, lock)
+                self.start(crate, self.jobs_of(crate, free, len(ready) - place - 1), lock)
 
-    def start(self, crate, free, lock):
-        # (a crate gets several jobs if, of those under way, it is the first on the longest chain)
-        is_first = all(self.ahead[it] < self.ahead[crate] for it in self.running)
-        jobs = min(free, processors(), 4) if is_first else 1
+    def most_ahead(self):
+        return max(self.ahead[it] for it in self.left | set(self.running))
+
+    def jobs_of(self, crate, free, waiting):
+        """How many jobs a crate gets of the free places: what those that wait leave, and two if it is the first on the longest chain."""
+        least = 2 if self.ahead[crate] == self.most_ahead() else 1
+        return min(free, processors(), 4, max(least, free - waiting))
+
+    def start(self, crate, jobs, lock):
+        # (the longest chain of crates decides when all is done, so the less a crate has ahead, the later the processors serve it)
+        rank = round(15 * (1 - self.ahead[crate] / self.most_ahead()))
         os.makedirs(f"{TOP}/crates/{crate}/out", exist_ok=True)
-        self.note(f"{crate} begins, {jobs} jobs{'' if is_first else ', after others'}")
-        proof = Proof(crate, sorted(all_below(crate, self.uses)), jobs, is_first, lock)
+        self.note(f"{crate} begins, {jobs} jobs, rank {rank}")
+        proof = Proof(crate, sorted(all_below(crate, self.uses)), jobs, rank, lock)
         self.left.remove(crate)
         self.running[crate] = proof
         self.selector.register(proof.process.stdout, selectors.EVENT_READ, proof)
