@@ -12,8 +12,8 @@ use Rattle.atomic_table.specs.Table.{State, Me, step, keeps, stepped, Allows, Sp
 use Rattle.atomic_table.proofs.Lists.{set_else}
 use Rattle.cp_claim.specs.Views.{View, Share, all_shares, times, times_named, ends, once_below, HasRead, IsAlone, spent, parent, child, joined, with_number, with_end, Draws}
 use Rattle.cp_claim.specs.Rule.{shares_of, drawn_of, IsSeatAt, GivesEachOnce}
-use Rattle.cp_claim.proofs.Lists.{sum_by-set_at, two_terms-le-sum_by, sum_by-of_one, in_range, at_end, each_of_set}
-use Rattle.cp_claim.proofs.Views.{shares_of-living, drawn_of-living, times-own, once_below-le, once_below-suc}
+use Rattle.cp_claim.proofs.Lists.{sum_by-set_at, term-le-sum_by, two_terms-le-sum_by, sum_by-of_one, in_range, at_end, each_of_set}
+use Rattle.cp_claim.proofs.Views.{shares_of-living, drawn_of-living, times-own, once_below-le, once_below-suc, below-counted}
 
 abbrev Table : Type 0
 Table = State (Unit {0}) View
@@ -88,6 +88,12 @@ module _ (n : ℕ) where
       (let f : Share → ℕ = λ k. if is_some k.end then 1 else 0 in let after : ends (shares_of w) ≡ 1 + ends v.others = ap ends is ∙ sum_by-cons f w.mine v.others in
       let none_yet : f v.mine ≡ 0 = ap (λ (b : Bool). if b then 1 else 0) fresh in let before : ends (shares_of v) ≡ f v.mine + ends v.others = ap ends was ∙ sum_by-cons f v.mine v.others in omega arith)
 
+  -- what a seat drew lies below the word, since each number in a living view does
+  drawn_below : (s : Table) (r : GivesEachOnce n s) (id : ℕ) (v : View) → get_elem? s.views id ≡ some v → v.lives ≡ true → word_of s < n → All (λ y. y < word_of s) v.drawn
+  drawn_below s r id v at lives low = let here : min n (word_of s) ≡ word_of s = omega arith in below-counted (word_of s) v.drawn (λ x.
+      let mine : times x (drawn_of v) ≡ times x v.drawn = ap (times x) (drawn_of-living v lives) in let one = term-le-sum_by (λ (z : View). times x (drawn_of z)) s.views id v at in
+      let all = r.drawn x in let bound : once_below x (min n (word_of s)) ≡ once_below x (word_of s) = ap (once_below x) here in omega arith)
+
   pub draws : (slots id : ℕ) (me : Me (Unit {0}) View) → me.0.lives ≡ true → is_some me.0.mine.end ≡ false → Allows (GivesEachOnce n) slots id me 0 (λ x. (x + 1) % 2 ^ 64) (Draws (step slots 0 1 0 none) me)
   draws slots id me lives fresh s r _ at _ = let v : View = me.0 in let ok = r.seats id v at lives in let x₀ : ℕ = word_of s in let limit = ok.limit in
       let ends_few : sum_by (λ (z : View). ends (shares_of z)) s.views ≤ sum_by (λ (z : View). length (shares_of z)) s.views = sum_by-le-sum_by (λ (z : View). ends (shares_of z)) (λ (z : View). length (shares_of z)) s.views (λ z. count_by-le-length (λ (k : Share). is_some k.end) (shares_of z)) in
@@ -105,7 +111,7 @@ module _ (n : ℕ) where
         keeps,
         tt,
         subst (λ (z : ℕ). GivesEachOnce n (stepped s 0 z id me.1 w keeps)) (sym same) (draws_number s r id v at lives low),
-        (refl, (λ _. refl), λ high. absurd (omega arith)),
+        (refl, (λ _. (refl, drawn_below s r id v at lives low)), λ high. absurd (omega arith)),
       ))
 
   pub splits : (id : ℕ) (v : View) → v.lives ≡ true → v.mine.number ≡ 0 → v.made < 4294967295 → Splits (GivesEachOnce n) id v (parent v) (child v)

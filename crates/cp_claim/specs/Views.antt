@@ -1,5 +1,5 @@
 -- What a seat of claims knows, and what each call makes of it.
-use Rattle.std.specs.Prelude.{◌≡◌, ℕ, ◌+◌, ◌<◌, ◌≤◌, ◌==◌, nat_lt, Bool, true, false, List, [], ◌∷◌, ◌++◌, Option, Some, None, is_some, count_by, if◌then◌else◌}
+use Rattle.std.specs.Prelude.{◌≡◌, ℕ, ◌+◌, ◌<◌, ◌≤◌, ◌==◌, nat_lt, Bool, true, false, List, [], ◌∷◌, ◌++◌, Option, Some, None, is_some, All, count_by, if◌then◌else◌}
 use Rattle.std.specs.Option.{ForSome}
 use Rattle.atomic_table.specs.Table.{Me, Step}
 use Rattle.atomic_table.specs.Seated.{TableId}
@@ -90,6 +90,6 @@ with_end word v = record v { mine = record v.mine { end = Some word } }
 abbrev pub DrawsOnly : View → View → Type 0
 DrawsOnly v w = w ≡ record v { drawn = w.drawn; mine = record v.mine { end = w.mine.end } }
 
--- a draw: a word below the limit is drawn, and at another the seat ends
+-- a draw: a word below the limit is drawn, and what the seat drew before lies below it; at another word the seat ends
 abbrev pub Draws : Step (Unit {0}) → Me (Unit {0}) View → ℕ → Me (Unit {0}) View → Type 0
-Draws _ me word me' = (me'.1 ≡ me.1) × (word < me.0.limit → me'.0 ≡ with_number word me.0) × (me.0.limit ≤ word → me'.0 ≡ with_end word me.0)
+Draws _ me word me' = (me'.1 ≡ me.1) × (word < me.0.limit → (me'.0 ≡ with_number word me.0) × All (λ y. y < word) me.0.drawn) × (me.0.limit ≤ word → me'.0 ≡ with_end word me.0)

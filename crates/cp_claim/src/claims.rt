@@ -46,14 +46,16 @@ impl Claims {
         ))
     }
 
-    /// A number below the limit that no call gave before; or None, exactly where the word that this seat read, now or at its
-    /// first None, was at least the limit. After a None the seat answers None and reads no more.
+    /// A number below the limit that no call gave before, above each that the seat has drawn; or None, exactly where the word
+    /// that this seat read, now or at its first None, was at least the limit. After a None the seat answers None and reads no
+    /// more.
     pub fn next(&self, seat: &mut ClaimSeat) -> Option<u64>
         requires counter { seat.old.counter ≡ self.now }
         ensures counter { seat.new.counter ≡ seat.old.counter }
         ensures number { IfSome result (λ x. (x < self.now.limit) × (seat.old.view.mine.end ≡ None) × (seat.new.view ≡ with_number x seat.old.view)) }
         ensures end { IfNone result ((word : ℕ) × (self.now.limit ≤ word) × (seat.new.view ≡ with_end word seat.old.view)) }
         ensures same { DrawsOnly seat.old.view seat.new.view }
+        ensures rising { IfSome result (λ x. All (λ y. y < x) seat.old.view.drawn) }
         ensures again { (word : ℕ) → seat.old.view.mine.end ≡ Some word → (result ≡ None) × (seat.new.view ≡ seat.old.view) }
     {
         if seat.has_ended {

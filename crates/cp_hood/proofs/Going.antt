@@ -1,5 +1,5 @@
 -- How a seat goes on.
-use Rattle.std.proofs.Common.{ℕ, List, [], ◌∷◌, ◌++◌, append_assoc, append-nil, refl, sym, ap, ◌∙◌}
+use Rattle.std.proofs.Common.{ℕ, List, [], ◌∷◌, ◌++◌, length, append_assoc, append-nil, refl, sym, ap, ◌∙◌}
 use Rattle.cp_logic.specs.declared.named.Named.{Named}
 use Rattle.cp_logic.specs.Journals.{Post}
 use Rattle.cp_yard.specs.Views.{Note, Got, SeatView, noted, with_lock, unlocked}
@@ -25,7 +25,7 @@ GoesOn-unlocked x v = record { base = refl; number = refl; made = refl; own = re
 pub GoesOn-noted : (n : Note) (v : SeatView) → GoesOn v (noted n v) (n ∷ []) []
 GoesOn-noted n v = record { base = refl; number = refl; made = refl; own = refl; others = refl; notes = refl; posts = sym (append-nil v.own.posts) }
 
-pub GoesOn-locked : (x : ℕ) (cs : List Named) (v : SeatView) → GoesOn v (with_lock x cs v) (Got x cs ∷ []) []
+pub GoesOn-locked : (x : ℕ) (cs : List Named) (v : SeatView) → GoesOn v (with_lock x cs v) (Got x cs (length v.own.posts) ∷ []) []
 GoesOn-locked x cs v = record { base = refl; number = refl; made = refl; own = refl; others = refl; notes = refl; posts = sym (append-nil v.own.posts) }
 
 -- and then with no note and no post

@@ -151,10 +151,10 @@ module _ (c : CellView) (low high : List ℕ) (a : IsAscending (low ++ c.variabl
           | inr ne ↦ listed-later y c got ne ∙ sym (listed-front y got c ne)
         ]
 
-  pub low-cut : (got : List CellView) (left : List ℕ) (var by limit : ℕ) → variables_of got ++ var ∷ left ≡ low
+  pub low-cut : (got : List CellView) (left : List ℕ) (var by limit n : ℕ) → variables_of got ++ var ∷ left ≡ low
       → low ++ c.variable ∷ high ≡ neighbourhood c.clauses c.variable → length (low ++ c.variable ∷ high) ≤ limit
-      → IsCut c.variable limit (Got c.variable c.clauses ∷ (gots got ++ Met var by ∷ [])) var by
-  low-cut got left var by limit is near small = inr (
+      → IsCut c.variable limit n (Got c.variable c.clauses n ∷ (gots n got ++ Met var by ∷ [])) var by
+  low-cut got left var by limit n is near small = inr (
     c.clauses,
     got,
     left ++ high,
@@ -185,17 +185,17 @@ module _ (c : CellView) (low high : List ℕ) (a : IsAscending (low ++ c.variabl
       above-held v h r = HoldsJust-locks more v (got ++ c ∷ []) h (ascends-front (variables_of more) rest (subst IsAscending (sym are) high-ascends))
           (λ y m. (high-absent got is y (in-high y m), r y (in-high y m)))
 
-      pub high-cut : (left : List ℕ) (var by limit : ℕ) → rest ≡ var ∷ left
+      pub high-cut : (left : List ℕ) (var by limit n : ℕ) → rest ≡ var ∷ left
           → low ++ c.variable ∷ high ≡ neighbourhood c.clauses c.variable → length (low ++ c.variable ∷ high) ≤ limit
-          → IsCut c.variable limit (Got c.variable c.clauses ∷ (gots got ++ (gots more ++ Met var by ∷ []))) var by
-      high-cut left var by limit e near small = inr (
+          → IsCut c.variable limit n (Got c.variable c.clauses n ∷ (gots n got ++ (gots n more ++ Met var by ∷ []))) var by
+      high-cut left var by limit n e near small = inr (
         c.clauses,
         got ++ more,
         left,
         subst (λ (xs : List ℕ). length xs ≤ limit) near small,
         ap (λ (xs : List ℕ). xs ++ var ∷ left) (map-append (λ (z : CellView). z.variable) got more) ∙ append_assoc (variables_of got) (variables_of more) (var ∷ left)
             ∙ ((λ i. is i ++ (ap (λ (xs : List ℕ). variables_of more ++ xs) (sym e) ∙ are) i) ∙ (sym others-are ∙ ap (other_variables c.variable) near)),
-        ap (λ (ns : List Note). Got c.variable c.clauses ∷ ns) (sym (append_assoc (gots got) (gots more) (Met var by ∷ [])) ∙ ap (λ (ns : List Note). ns ++ Met var by ∷ []) (sym (map-append (λ (d : CellView). Got d.variable d.clauses) got more))),
+        ap (λ (ns : List Note). Got c.variable c.clauses n ∷ ns) (sym (append_assoc (gots n got) (gots n more) (Met var by ∷ [])) ∙ ap (λ (ns : List Note). ns ++ Met var by ∷ []) (sym (map-append (λ (d : CellView). Got d.variable d.clauses n) got more))),
       )
 
     other-cells : variables_of more ≡ high → other_cells c.variable ((got ++ c ∷ []) ++ more) ≡ got ++ more
@@ -218,17 +218,17 @@ module _ (c : CellView) (low high : List ℕ) (a : IsAscending (low ++ c.variabl
             not_from_false (eqb d.variable c.variable) (ne_eqb d.variable c.variable (λ e. omega arith)))
 
     -- all were got
-    pub whole : (x limit : ℕ) → x ≡ c.variable → variables_of more ≡ high → low ++ c.variable ∷ high ≡ neighbourhood c.clauses c.variable → length (low ++ c.variable ∷ high) ≤ limit
-        → IsWhole c.variable limit (Got c.variable c.clauses ∷ (gots got ++ gots more)) (record { centre = x; cells = (got ++ c ∷ []) ++ more })
-    whole x limit e are near small =
+    pub whole : (x limit n : ℕ) → x ≡ c.variable → variables_of more ≡ high → low ++ c.variable ∷ high ≡ neighbourhood c.clauses c.variable → length (low ++ c.variable ∷ high) ≤ limit
+        → IsWhole c.variable limit n (Got c.variable c.clauses n ∷ (gots n got ++ gots n more)) (record { centre = x; cells = (got ++ c ∷ []) ++ more })
+    whole x limit n e are near small =
         let cells : List CellView = (got ++ c ∷ []) ++ more in
         let home : clauses_at_home x cells ≡ c.clauses = ap (λ (z : ℕ). clauses_at_home z cells) e ∙ home-seam got c more (λ d m. below-seam low c.variable high d.variable a (subst (λ (xs : List ℕ). Contains xs d.variable) is (in_map (λ (z : CellView). z.variable) got d m))) in
         let vars : variables_of cells ≡ low ++ c.variable ∷ high = sym (append-nil (variables_of cells)) ∙ variables-are [] (append-nil (variables_of more) ∙ are) in record {
           centre = e;
           variables = vars ∙ near ∙ ap (λ (cs : List Named). neighbourhood cs c.variable) (sym home);
-          within = subst (λ (n : ℕ). n ≤ limit) (sym (ap length vars) ∙ length-map cells (λ (z : CellView). z.variable)) small;
-          notes = ap (λ (cs : List Named). Got c.variable cs ∷ (gots got ++ gots more)) (sym home)
-              ∙ ap (λ (ns : List Note). Got c.variable (clauses_at_home x cells) ∷ ns) (sym (map-append (λ (d : CellView). Got d.variable d.clauses) got more) ∙ ap gots (sym (other-cells are)));
+          within = subst (λ (k : ℕ). k ≤ limit) (sym (ap length vars) ∙ length-map cells (λ (z : CellView). z.variable)) small;
+          notes = ap (λ (cs : List Named). Got c.variable cs n ∷ (gots n got ++ gots n more)) (sym home)
+              ∙ ap (λ (ns : List Note). Got c.variable (clauses_at_home x cells) n ∷ ns) (sym (map-append (λ (d : CellView). Got d.variable d.clauses n) got more) ∙ ap (gots n) (sym (other-cells are)));
         }
 
   pub high-free : (v : SeatView) (got : List CellView) → variables_of got ≡ low → HoldsJust v (got ++ c ∷ []) → (y : ℕ) → Contains high y → held_of y v.held ≡ None

@@ -1,6 +1,7 @@
 -- What a commit comes to, by what it found under the turn.
 use Rattle.std.proofs.Common.{◌≡◌, ℕ, ◌+◌, ◌<◌, Bool, true, false, cond, List, [], ◌∷◌, ◌++◌, length, Some, None, Result, Ok, Err, OnOk, is_err, refl, sym, ◌∙◌, ap, subst, inl}
 use Rattle.std.specs.Prelude.{is_some, nat_lt}
+use Rattle.cp_logic.specs.declared.named.Named.{Named}
 use Rattle.cp_logic.specs.declared.settings.Rules.{Rules}
 use Rattle.cp_logic.specs.declared.stop.Stop.TheVariants.{Refuted as StopRefuted, Spent as StopSpent}
 use Rattle.cp_logic.specs.Formulas.{has_empty}
@@ -16,14 +17,15 @@ use Rattle.cp_book.proofs.Commits.{numbered-again, count-numbered}
 use Rattle.cp_book.proofs.EmptyFacts.{least-none}
 use Rattle.cp_occ.specs.Changes.{lists_after}
 use Rattle.cp_yard.specs.declared.yard.Receipt.{Receipt}
-use Rattle.cp_yard.specs.Views.{Base, Note, GotTurn, MetTurn, SeatView, base_of, noted, with_turn, without_turn, with_post}
+use Rattle.cp_yard.specs.Views.{Base, Note, GotTurn, MetTurn, SeatView, base_of, held_of, noted, with_turn, without_turn, with_post}
+use Rattle.cp_yard.specs.Rule.{clauses_at}
 use Rattle.cp_hood.specs.declared.answers.CommitAnswer.{CommitAnswer}
 use Rattle.cp_hood.specs.declared.answers.CommitAnswer.TheVariants.{TurnHeld, Refuted, Spent, Numbers, NoMemory}
 use Rattle.cp_hood.specs.Hoods.{HoodView, IsHood, IsLegalAt, AreOccurrences, HoldsJust}
 use Rattle.cp_hood.specs.Seats.{GoesOn, met_turns, noted_all}
-use Rattle.cp_hood.specs.Commits.{IsCommit, IsHoodAfter, IsSameHood, IsRefusal, IsTaken, post_after}
+use Rattle.cp_hood.specs.Commits.{IsCommit, IsCurrent, IsHoodAfter, IsSameHood, IsRefusal, IsTaken, post_after}
 use Rattle.cp_hood.proofs.Centred.{legal_in-numbered}
-use Rattle.cp_hood.proofs.Following.{centre-occurrences}
+use Rattle.cp_hood.proofs.Following.{AreOccurrences-held, centre-occurrences}
 use Rattle.cp_hood.proofs.Turns.{GoesOn-met, GoesOn-ended, GoesOn-posted, HoldsJust-met, HoldsJust-ended, HoldsJust-posted}
 
 -- where there is no error, what holds without one
@@ -48,6 +50,11 @@ posts-made b c e worker number round p n s = ap (λ (z : BookView). z.posts) p �
 same_hood : (h : HoodView) → IsSameHood h h
 same_hood h = record { centre = refl; clauses = refl; variables = refl; lists = refl }
 
+-- what the seat holds agrees with the book, so its hood is current
+pub is-current : (v : SeatView) (b : BookView) (h : HoodView) → IsHood h → HoldsJust v h.cells
+    → ((x : ℕ) (cs : List Named) → held_of x v.held ≡ Some cs → cs ≡ clauses_at (base_of b) b.posts x) → IsCurrent (base_of b) b.posts h
+is-current v b h is holds held = centre-occurrences (current b).clauses h.centre h.cells (AreOccurrences-held (current b).clauses h.cells v.held is.ascending holds.held held) is.centre
+
 -- each try met a seat
 module _ (v w : SeatView) (e : Entry) (h : HoodView) (round tries by : ℕ) (met : List ℕ) (many : length met + 1 ≡ tries) (is : w ≡ noted (MetTurn by) (noted_all (met_turns met) v)) where
   pub held-commit : (notes : List Note) × (posts : List (ℕ × Post)) × GoesOn v w notes posts × IsCommit v.base v.number round tries e h h notes posts (Err (TurnHeld by))
@@ -71,24 +78,24 @@ module _ (v w : SeatView) (b : BookView) (tries : ℕ) (met : List ℕ) (few : l
     pub ended-holds : HoldsJust v h.cells → HoldsJust u h.cells
     ended-holds k = subst (λ (z : SeatView). HoldsJust z h.cells) (sym (ended ∙ ap without_turn got)) (HoldsJust-ended v met b.posts h.cells k)
 
-    refused : (a : CommitAnswer) → IsRefusal b e a → IsCommit (base_of b) v.number round tries e h h (met_turns met ++ GotTurn b.posts ∷ []) [] (Err a)
-    refused (TurnHeld by) r = absurd r
-    refused (Refuted empty) r = (b.posts, (met, few, refl), r.0, r.1, refl, same_hood h)
-    refused (Spent len) r = (b.posts, (met, few, refl), r.0, r.1, refl, same_hood h)
-    refused (Numbers next) r = (b.posts, (met, few, refl), r.0, r.1, refl, same_hood h)
-    refused NoMemory r = absurd r
+    refused : IsCurrent (base_of b) b.posts h → (a : CommitAnswer) → IsRefusal b e a → IsCommit (base_of b) v.number round tries e h h (met_turns met ++ GotTurn b.posts ∷ []) [] (Err a)
+    refused k (TurnHeld by) r = absurd r
+    refused k (Refuted empty) r = (b.posts, (met, few, refl), k, r.0, r.1, refl, same_hood h)
+    refused k (Spent len) r = (b.posts, (met, few, refl), k, r.0, r.1, refl, same_hood h)
+    refused k (Numbers next) r = (b.posts, (met, few, refl), k, r.0, r.1, refl, same_hood h)
+    refused k NoMemory r = absurd r
 
-    pub refused-commit : (a : CommitAnswer) → IsRefusal b e a
+    pub refused-commit : IsCurrent (base_of b) b.posts h → (a : CommitAnswer) → IsRefusal b e a
         → (notes : List Note) × (posts : List (ℕ × Post)) × GoesOn v u notes posts × IsCommit v.base v.number round tries e h h notes posts (Err a)
-    refused-commit a r = (
+    refused-commit k a r = (
       met_turns met ++ GotTurn b.posts ∷ [],
       [],
       goes,
-      subst (λ (f : Base). IsCommit f v.number round tries e h h (met_turns met ++ GotTurn b.posts ∷ []) [] (Err a)) base (refused a r),
+      subst (λ (f : Base). IsCommit f v.number round tries e h h (met_turns met ++ GotTurn b.posts ∷ []) [] (Err a)) base (refused k a r),
     )
 
-    pub lacking-commit : (notes : List Note) × (posts : List (ℕ × Post)) × GoesOn v u notes posts × IsCommit v.base v.number round tries e h h notes posts (Err NoMemory)
-    lacking-commit = (met_turns met ++ GotTurn b.posts ∷ [], [], goes, (b.posts, (met, few, refl), refl, same_hood h))
+    pub lacking-commit : IsCurrent (base_of b) b.posts h → (notes : List Note) × (posts : List (ℕ × Post)) × GoesOn v u notes posts × IsCommit v.base v.number round tries e h h notes posts (Err NoMemory)
+    lacking-commit k = (met_turns met ++ GotTurn b.posts ∷ [], [], goes, (b.posts, (met, few, refl), subst (λ (f : Base). IsCurrent f b.posts h) base k, refl, same_hood h))
 
   -- which ended with the post of the entry, as it is numbered
   module _ (u : SeatView) (c : BookView) (e d : Entry) (old new : HoodView) (round : ℕ) (posts : c.posts ≡ b.posts) (numbers : d ≡ numbered (current b).next e)
@@ -103,14 +110,14 @@ module _ (v w : SeatView) (b : BookView) (tries : ℕ) (met : List ℕ) (few : l
     posted-holds k = subst (λ (z : SeatView). HoldsJust z new.cells) (sym is)
         (HoldsJust-posted v met b.posts (length b.posts) made old.cells new.cells k after.variables (after.lists ∙ ap (lists_after old.cells) numbers))
 
-    pub posted-commit : (r : Receipt) → r.position ≡ length c.posts
+    pub posted-commit : IsCurrent (base_of b) b.posts old → (r : Receipt) → r.position ≡ length c.posts
         → (notes : List Note) × (posts : List (ℕ × Post)) × GoesOn v u notes posts × IsCommit v.base v.number round tries e old new notes posts (Ok r)
-    posted-commit r p = (
+    posted-commit k r p = (
       met_turns met ++ GotTurn b.posts ∷ [],
       (length b.posts, made) ∷ [],
       subst (λ (z : SeatView). GoesOn v z (met_turns met ++ GotTurn b.posts ∷ []) ((length b.posts, made) ∷ [])) (sym is) (GoesOn-posted v met b.posts (length b.posts) made),
       subst (λ (f : Base). IsCommit f v.number round tries e old new (met_turns met ++ GotTurn b.posts ∷ []) ((length b.posts, made) ∷ []) (Ok r)) base
-          (b.posts, (met, few, refl), p ∙ ap length posts, refl, subst (λ (z : Entry). IsHoodAfter z old new) numbers after),
+          (b.posts, (met, few, refl), k, p ∙ ap length posts, refl, subst (λ (z : Entry). IsHoodAfter z old new) numbers after),
     )
 
 -- the book takes an entry that is legal at the centre, where it isn't refused

@@ -24,10 +24,10 @@ held_of-locks (d ∷ ds) v y n =
     held_of-locks ds (with_lock d.variable d.clauses v) y (λ m. n (in_later y d.variable (variables_of ds) m))
     ∙ held_of-other d.variable y d.clauses v.held (λ e. n (in_here y d.variable (variables_of ds) (sym e)))
 
-pub GoesOn-locks : (cs : List CellView) (v : SeatView) → GoesOn v (with_locks cs v) (gots cs) []
+pub GoesOn-locks : (cs : List CellView) (v : SeatView) → GoesOn v (with_locks cs v) (gots (length v.own.posts) cs) []
 GoesOn-locks [] v = GoesOn-none v
-GoesOn-locks (d ∷ ds) v = let w : SeatView = with_lock d.variable d.clauses v in
-    GoesOn-then v w (with_locks ds w) (Got d.variable d.clauses ∷ []) (gots ds) [] [] (GoesOn-locked d.variable d.clauses v) (GoesOn-locks ds w)
+GoesOn-locks (d ∷ ds) v = let w : SeatView = with_lock d.variable d.clauses v in let n : ℕ = length v.own.posts in
+    GoesOn-then v w (with_locks ds w) (Got d.variable d.clauses n ∷ []) (gots n ds) [] [] (GoesOn-locked d.variable d.clauses v) (GoesOn-locks ds w)
 
 -- ---- ascending variables
 

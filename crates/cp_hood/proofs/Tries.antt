@@ -47,11 +47,24 @@ row-cut vars v w before after (Busy var by) r = (var, by, refl, r)
 row-cut vars v w before after (Wide count) r = absurd r
 row-cut vars v w before after NoMemory r = absurd r
 
--- with some notes it came to this answer
-abbrev pub ComesTo : CellView → List ℕ → SeatView → SeatView → (ℕ → List Note → Type 0) → Type 0
-ComesTo c vars v w P = (notes : List Note) × GoesOn v w notes [] × ((limit : ℕ) → length vars ≤ limit → P limit (Got c.variable c.clauses ∷ notes))
+-- with some notes it came to this answer, and the seat had made so many posts
+abbrev pub ComesTo : CellView → List ℕ → SeatView → SeatView → (ℕ → ℕ → List Note → Type 0) → Type 0
+ComesTo c vars v w P = let n : ℕ = length v.own.posts in
+    (notes : List Note) × GoesOn v w notes [] × ((limit : ℕ) → length vars ≤ limit → P limit n (Got c.variable c.clauses n ∷ notes))
+
+-- a row of locks, of a seat that had made so many posts
+row-goes : (n : ℕ) (got : List CellView) (v w : SeatView) → length v.own.posts ≡ n → w ≡ with_locks got v → GoesOn v w (gots n got) []
+row-goes n got v w e is = subst (λ (p : ℕ × SeatView). GoesOn v p.1 (gots p.0 got) []) (λ i. (e i, sym is i)) (GoesOn-locks got v)
+
+cut-goes : (n : ℕ) (got : List CellView) (v w : SeatView) (var by : ℕ) → length v.own.posts ≡ n → w ≡ noted (Met var by) (with_locks got v) → GoesOn v w (gots n got ++ Met var by ∷ []) []
+cut-goes n got v w var by e is = subst (λ (s : SeatView). GoesOn v s (gots n got ++ Met var by ∷ []) []) (sym is)
+    (GoesOn-then v (with_locks got v) (noted (Met var by) (with_locks got v)) (gots n got) (Met var by ∷ []) [] [] (row-goes n got v (with_locks got v) e refl) (GoesOn-noted (Met var by) (with_locks got v)))
 
 module _ (c : CellView) (low high vars : List ℕ) (v : SeatView) (a : Around c low high vars v) where
+  -- how many posts the seat had made
+  abbrev made : ℕ
+  made = length v.own.posts
+
   small : (limit : ℕ) → length vars ≤ limit → length (low ++ c.variable ∷ high) ≤ limit
   small limit l = subst (λ (xs : List ℕ). length xs ≤ limit) a.split l
 
@@ -74,26 +87,28 @@ module _ (c : CellView) (low high vars : List ℕ) (v : SeatView) (a : Around c 
           (subst (λ (s : SeatView). HoldsJust s (r.got ++ c ∷ [])) (sym r.seat)
           (HoldsJust-noted (Met var by) (with_locks r.got v) (r.got ++ c ∷ []) (below-held c low high a.ascending r.got (var ∷ r.left) r.variables v a.holds low-range)))
 
-      low-cut_goes : GoesOn v w (gots r.got ++ Met var by ∷ []) []
-      low-cut_goes = subst (λ (s : SeatView). GoesOn v s (gots r.got ++ Met var by ∷ []) []) (sym r.seat)
-          (GoesOn-then v (with_locks r.got v) (noted (Met var by) (with_locks r.got v)) (gots r.got) (Met var by ∷ []) [] [] (GoesOn-locks r.got v) (GoesOn-noted (Met var by) (with_locks r.got v)))
+      low-cut_goes : GoesOn v w (gots made r.got ++ Met var by ∷ []) []
+      low-cut_goes = cut-goes made r.got v w var by refl r.seat
 
       pub low-cut_base : w.base ≡ v.base
       low-cut_base = low-cut_goes.base
 
-      pub low-cut_comes : (u : SeatView) → GoesOn w u [] [] → ComesTo c vars v u (λ limit notes. IsCut c.variable limit notes var by)
+      pub low-cut_comes : (u : SeatView) → GoesOn w u [] [] → ComesTo c vars v u (λ limit n notes. IsCut c.variable limit n notes var by)
       low-cut_comes u g = (
-        gots r.got ++ Met var by ∷ [],
-        GoesOn-back v w u (gots r.got ++ Met var by ∷ []) [] low-cut_goes g,
-        λ limit l. low-cut c low high a.ascending r.got r.left var by limit r.variables a.near (small limit l),
+        gots made r.got ++ Met var by ∷ [],
+        GoesOn-back v w u (gots made r.got ++ Met var by ∷ []) [] low-cut_goes g,
+        λ limit l. low-cut c low high a.ascending r.got r.left var by limit made r.variables a.near (small limit l),
       )
 
     module _ (r : IsRow low v w before cells) where
       whole-low : variables_of r.got ++ [] ≡ low
       whole-low = append-nil (variables_of r.got) ∙ r.variables
 
-      low-goes : GoesOn v w (gots r.got) []
-      low-goes = subst (λ (s : SeatView). GoesOn v s (gots r.got) []) (sym r.seat) (GoesOn-locks r.got v)
+      low-goes : GoesOn v w (gots made r.got) []
+      low-goes = row-goes made r.got v w refl r.seat
+
+      still-made : length w.own.posts ≡ made
+      still-made = ap length (low-goes.posts ∙ append-nil v.own.posts)
 
       low-held : HoldsJust w (r.got ++ c ∷ [])
       low-held = subst (λ (s : SeatView). HoldsJust s (r.got ++ c ∷ [])) (sym r.seat) (below-held c low high a.ascending r.got [] whole-low v a.holds low-range)
@@ -116,19 +131,17 @@ module _ (c : CellView) (low high vars : List ℕ) (v : SeatView) (a : Around c 
             (subst (λ (t : SeatView). HoldsJust t ((r.got ++ c ∷ []) ++ s.got)) (sym s.seat)
             (HoldsJust-noted (Met var by) (with_locks s.got w) ((r.got ++ c ∷ []) ++ s.got) (above-held c low high a.ascending r.got r.variables s.got (var ∷ s.left) s.variables w low-held high-range)))
 
-        high-cut_goes : GoesOn v u (gots r.got ++ (gots s.got ++ Met var by ∷ [])) []
-        high-cut_goes = GoesOn-then v w u (gots r.got) (gots s.got ++ Met var by ∷ []) [] [] low-goes
-            (subst (λ (t : SeatView). GoesOn w t (gots s.got ++ Met var by ∷ []) []) (sym s.seat)
-            (GoesOn-then w (with_locks s.got w) (noted (Met var by) (with_locks s.got w)) (gots s.got) (Met var by ∷ []) [] [] (GoesOn-locks s.got w) (GoesOn-noted (Met var by) (with_locks s.got w))))
+        high-cut_goes : GoesOn v u (gots made r.got ++ (gots made s.got ++ Met var by ∷ [])) []
+        high-cut_goes = GoesOn-then v w u (gots made r.got) (gots made s.got ++ Met var by ∷ []) [] [] low-goes (cut-goes made s.got w u var by still-made s.seat)
 
         pub high-cut_base : u.base ≡ v.base
         high-cut_base = high-cut_goes.base
 
-        pub high-cut_comes : (t : SeatView) → GoesOn u t [] [] → ComesTo c vars v t (λ limit notes. IsCut c.variable limit notes var by)
+        pub high-cut_comes : (t : SeatView) → GoesOn u t [] [] → ComesTo c vars v t (λ limit n notes. IsCut c.variable limit n notes var by)
         high-cut_comes t g = (
-          gots r.got ++ (gots s.got ++ Met var by ∷ []),
-          GoesOn-back v u t (gots r.got ++ (gots s.got ++ Met var by ∷ [])) [] high-cut_goes g,
-          λ limit l. high-cut c low high a.ascending r.got r.variables s.got (var ∷ s.left) s.variables s.left var by limit refl a.near (small limit l),
+          gots made r.got ++ (gots made s.got ++ Met var by ∷ []),
+          GoesOn-back v u t (gots made r.got ++ (gots made s.got ++ Met var by ∷ [])) [] high-cut_goes g,
+          λ limit l. high-cut c low high a.ascending r.got r.variables s.got (var ∷ s.left) s.variables s.left var by limit made refl a.near (small limit l),
         )
 
       module _ (u : SeatView) (after : List CellView) (s : IsRow high w u pushed after) where
@@ -142,12 +155,12 @@ module _ (c : CellView) (low high vars : List ℕ) (v : SeatView) (a : Around c 
         all-held = subst (λ (ds : List CellView). HoldsJust u ds) (sym all-is)
             (subst (λ (t : SeatView). HoldsJust t ((r.got ++ c ∷ []) ++ s.got)) (sym s.seat) (above-held c low high a.ascending r.got r.variables s.got [] whole-high w low-held high-range))
 
-        pub all-comes : (x : ℕ) → x ≡ c.variable → ComesTo c vars v u (λ limit notes. IsWhole c.variable limit notes (record { centre = x; cells = after }))
+        pub all-comes : (x : ℕ) → x ≡ c.variable → ComesTo c vars v u (λ limit n notes. IsWhole c.variable limit n notes (record { centre = x; cells = after }))
         all-comes x e = (
-          gots r.got ++ gots s.got,
-          GoesOn-then v w u (gots r.got) (gots s.got) [] [] low-goes (subst (λ (t : SeatView). GoesOn w t (gots s.got) []) (sym s.seat) (GoesOn-locks s.got w)),
-          λ limit l. subst (λ (ds : List CellView). IsWhole c.variable limit (Got c.variable c.clauses ∷ (gots r.got ++ gots s.got)) (record { centre = x; cells = ds })) (sym all-is)
-              (whole c low high a.ascending r.got r.variables s.got x limit e s.variables a.near (small limit l)),
+          gots made r.got ++ gots made s.got,
+          GoesOn-then v w u (gots made r.got) (gots made s.got) [] [] low-goes (row-goes made s.got w u still-made s.seat),
+          λ limit l. subst (λ (ds : List CellView). IsWhole c.variable limit made (Got c.variable c.clauses made ∷ (gots made r.got ++ gots made s.got)) (record { centre = x; cells = ds })) (sym all-is)
+              (whole c low high a.ascending r.got r.variables s.got x limit made e s.variables a.near (small limit l)),
         )
 
         -- what the type of hoods asks

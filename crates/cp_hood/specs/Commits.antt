@@ -14,6 +14,7 @@ use Rattle.cp_occ.specs.Cells.{variables_of, lists_of}
 use Rattle.cp_occ.specs.Changes.{lists_after}
 use Rattle.cp_yard.specs.declared.yard.Receipt.{Receipt}
 use Rattle.cp_yard.specs.Views.{Base, Note, GotTurn, MetTurn, base_of}
+use Rattle.cp_yard.specs.Rule.{clauses_at}
 use Rattle.cp_hood.specs.declared.answers.CommitAnswer.{CommitAnswer}
 use Rattle.cp_hood.specs.declared.answers.CommitAnswer.TheVariants.{TurnHeld, Refuted, Spent, Numbers, NoMemory}
 use Rattle.cp_hood.specs.Hoods.{HoodView, centre_clauses}
@@ -26,6 +27,10 @@ left_by f h = (folded f.formula h).formula
 -- the entry as it is posted after these posts
 abbrev pub post_after : Base → List Post → ℕ → ℕ → Entry → Post
 post_after f h worker round e = record { worker = worker; round = round; entry = numbered (left_by f h).next e }
+
+-- the centre's cell has the clauses of its variable after the posts
+abbrev pub IsCurrent : Base → List Post → HoodView → Type 0
+IsCurrent f h v = centre_clauses v ≡ clauses_at f h v.centre
 
 -- the turn was got with the journal h, at one of so many tries
 abbrev pub GetsTurn : ℕ → List Note → List Post → Type 0
@@ -69,20 +74,21 @@ pub record IsTaken (b : BookView) (e : Entry) : Type 0 where
   pub legal : IsTrue (is_legal_in (current b).clauses b.rules e)
   pub answer : answer_to b e ≡ Posted (length b.posts)
 
--- what a commit of the entry comes to, by its answer: its notes, the seat's new posts, and the hood. A refusal keeps the hood and posts nothing
+-- what a commit of the entry comes to, by its answer: its notes, the seat's new posts, and the hood. Where it got the turn, the hood was current.
+-- A refusal keeps the hood and posts nothing
 abbrev pub IsCommit : Base → ℕ → ℕ → ℕ → Entry → HoodView → HoodView → List Note → List (ℕ × Post) → Result Receipt CommitAnswer → Type 0
 IsCommit f worker round tries e old new notes posts (Ok r) =
-    (h : List Post) × GetsTurn tries notes h × (r.position ≡ length h) × (posts ≡ (length h, post_after f h worker round e) ∷ [])
-    × IsHoodAfter (post_after f h worker round e).entry old new
+    (h : List Post) × GetsTurn tries notes h × IsCurrent f h old × (r.position ≡ length h)
+    × (posts ≡ (length h, post_after f h worker round e) ∷ []) × IsHoodAfter (post_after f h worker round e).entry old new
 IsCommit f worker round tries e old new notes posts (Err (TurnHeld by)) = MeetsTurn tries notes by × (posts ≡ []) × IsSameHood old new
 IsCommit f worker round tries e old new notes posts (Err (Refuted empty)) =
-    (h : List Post) × GetsTurn tries notes h × (least_empty (left_by f h).clauses ≡ Some empty) × IsStopAfter f h e ForRefutation
-    × (posts ≡ []) × IsSameHood old new
+    (h : List Post) × GetsTurn tries notes h × IsCurrent f h old × (least_empty (left_by f h).clauses ≡ Some empty)
+    × IsStopAfter f h e ForRefutation × (posts ≡ []) × IsSameHood old new
 IsCommit f worker round tries e old new notes posts (Err (Spent len)) =
-    (h : List Post) × GetsTurn tries notes h × (len ≡ commits h) × IsStopAfter f h e ForBudget
+    (h : List Post) × GetsTurn tries notes h × IsCurrent f h old × (len ≡ commits h) × IsStopAfter f h e ForBudget
     × (posts ≡ []) × IsSameHood old new
 IsCommit f worker round tries e old new notes posts (Err (Numbers next)) =
-    (h : List Post) × GetsTurn tries notes h × (next ≡ (left_by f h).next) × IsStopAfter f h e ForNumbers
+    (h : List Post) × GetsTurn tries notes h × IsCurrent f h old × (next ≡ (left_by f h).next) × IsStopAfter f h e ForNumbers
     × (posts ≡ []) × IsSameHood old new
 IsCommit f worker round tries e old new notes posts (Err NoMemory) =
-    (h : List Post) × GetsTurn tries notes h × (posts ≡ []) × IsSameHood old new
+    (h : List Post) × GetsTurn tries notes h × IsCurrent f h old × (posts ≡ []) × IsSameHood old new

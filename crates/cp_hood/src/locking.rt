@@ -34,7 +34,7 @@ pub fn try_hood(
     requires high { x ≤ yard.now.base.formula.variables }
     requires idle { IsIdle seat.old.view }
     ensures table { seat.new.table ≡ seat.old.table }
-    ensures tries { (notes : List Note) × GoesOn seat.old.view seat.new.view notes [] × IsTry x limit notes result }
+    ensures tries { (notes : List Note) × GoesOn seat.old.view seat.new.view notes [] × IsTry x limit (length seat.old.view.own.posts) notes result }
     ensures holds { IfOk result (λ h. HoldsJust seat.new.view h.cells) }
     ensures idle { OnErr result (IsIdle seat.new.view) }
 {
@@ -95,7 +95,7 @@ fn lock_others(
     requires range { All (λ y. (1 ≤ y) × (y ≤ yard.now.base.formula.variables)) vars.now }
     requires room { (room.items ≡ []) × (length vars.now ≤ room.spare) }
     ensures table { seat.new.table ≡ seat.old.table }
-    ensures tries { (notes : List Note) × GoesOn seat.old.view seat.new.view notes [] × ((limit : ℕ) → length vars.now ≤ limit → IsTry centre.variable limit (Got centre.variable centre.clauses ∷ notes) result) }
+    ensures tries { let n = length seat.old.view.own.posts in (notes : List Note) × GoesOn seat.old.view seat.new.view notes [] × ((limit : ℕ) → length vars.now ≤ limit → IsTry centre.variable limit n (Got centre.variable centre.clauses n ∷ notes) result) }
     ensures holds { IfOk result (λ h. HoldsJust seat.new.view h.cells) }
     ensures idle { OnErr result (IsIdle seat.new.view) }
 {

@@ -1,7 +1,7 @@
 -- What the members of a round drew and did.
-use Rattle.std.proofs.Common.{◌≡◌, ◌≢◌, ℕ, zero, suc, ◌+◌, ◌<◌, ◌≤◌, ◌/◌, ⊎_elim, min, Bool, Option, List, [], ◌∷◌, ◌++◌, length, map, get_or, take, drop, flat_map, slice_get, option_map, is_some, Some, None, All, count_by, refl, sym, ap, subst, ◌∙◌, arith}
+use Rattle.std.proofs.Common.{◌≡◌, ◌≢◌, ℕ, zero, suc, ◌+◌, ◌<◌, ◌≤◌, ◌/◌, ⊎_elim, min, Bool, Option, List, [], ◌∷◌, ◌++◌, length, append-nil, map, get_or, take, drop, flat_map, slice_get, option_map, is_some, Some, None, All, AllPairs, count_by, refl, sym, ap, subst, ◌∙◌, arith}
 use Rattle.std.specs.Prelude.{◌==◌, if◌then◌else◌}
-use Rattle.std.specs.List.{AllZip}
+use Rattle.std.specs.List.{AllZip, range_with_len}
 use Rattle.std.specs.Prelude.{Result, Ok, Err, IfOk}
 use Rattle.std.specs.Result.{result_ok}
 use Rattle.std.specs.Option.{ForSome}
@@ -11,6 +11,7 @@ use Rattle.cp_hood.specs.Seats.{GoesOn}
 use Rattle.cp_worker.specs.Shifts.{IsShift}
 use Rattle.std.proofs.lemmas.Option.{slice_get-map}
 use Rattle.std.proofs.lemmas.List.Elements.{All-cons, All-head, All-tail}
+use Rattle.std.proofs.lemmas.List.FromFn.{length-range_with_len}
 use Rattle.std.proofs.lemmas.Bool.{cases_lt}
 use Rattle.std.proofs.lemmas.List.Sums.{sum_by-cons, sum_by-append}
 use mathlib.Core.Logic.{dite}
@@ -23,9 +24,9 @@ use Rattle.cp_worker.specs.declared.lists.WorkerShift.{WorkerShift}
 use Rattle.cp_worker.specs.Candidates.{transposed, candidate_of, number_of, candidates_of}
 use Rattle.cp_worker.proofs.Permuted.{candidate-eqb, number-within, number-past}
 use Rattle.cp_phase.specs.declared.team.Member.{Member}
-use Rattle.cp_phase.specs.Rounds.{times_taken, once_in, NoneStopped}
+use Rattle.cp_phase.specs.Rounds.{times_taken, once_in, NoneStopped, IsInOrder}
 use Rattle.cp_phase.specs.Teams.{IsSeatOf, AreSeats, founder_of, claim_of, members_from, claims_joined, IsReady, IsWork, IsTaken, HasWorked, IsRound}
-use Rattle.cp_phase.proofs.Lists.{written_over, zip_from}
+use Rattle.cp_phase.proofs.Lists.{written_over, zip_from, first_numbers}
 use Rattle.cp_phase.proofs.Joins.{IsOut, all_out, drawn_of_all, claim_shares, claims_joined-is}
 
 -- the member as the round began
@@ -55,12 +56,12 @@ for_some (Err x) o P Q e h to = λ v at. absurd (none-some v (sym e ∙ at))
 
 -- what the shift of a member says of its seat and its claim seat
 pub worked : {E : Type 0} (workers limit in_round : ℕ) (v w : SeatView) (c d : View) (r : Result WorkerShift E) (o : Option WorkerShift) → o ≡ result_ok r
-    → IfOk r (λ s. (noted : List Note) × (posted : List (ℕ × Post)) × (drawn : List ℕ) × GoesOn v w noted posted × (d.drawn ≡ c.drawn ++ drawn) × IsShift v.base v.number in_round workers limit noted posted drawn s)
+    → IfOk r (λ s. (noted : List Note) × (posted : List (ℕ × Post)) × (drawn : List ℕ) × GoesOn v w noted posted × (d.drawn ≡ c.drawn ++ drawn) × IsShift v.base v.number in_round workers limit (length v.own.posts) noted posted drawn s)
     → ForSome o (IsWork workers limit in_round v w)
 worked workers limit in_round v w c d r o e h = for_some r o _ (IsWork workers limit in_round v w) e h (λ s k. record { noted = k.0; posted = k.1; drawn = k.2; goes = k.3; shift = k.5 })
 
 pub taken : {E : Type 0} (workers limit in_round : ℕ) (v w : SeatView) (c d : View) (r : Result WorkerShift E) (o : Option WorkerShift) → o ≡ result_ok r
-    → IfOk r (λ s. (noted : List Note) × (posted : List (ℕ × Post)) × (drawn : List ℕ) × GoesOn v w noted posted × (d.drawn ≡ c.drawn ++ drawn) × IsShift v.base v.number in_round workers limit noted posted drawn s)
+    → IfOk r (λ s. (noted : List Note) × (posted : List (ℕ × Post)) × (drawn : List ℕ) × GoesOn v w noted posted × (d.drawn ≡ c.drawn ++ drawn) × IsShift v.base v.number in_round workers limit (length v.own.posts) noted posted drawn s)
     → IfOk r (λ s. s.stopped ≡ None → (word : ℕ) × (d.mine.end ≡ Some word)) → ForSome o (IsTaken workers v.base.formula.variables c d)
 taken workers limit in_round v w c d (Ok s) o e k l = λ t at. subst (IsTaken workers v.base.formula.variables c d) (same_Some s t (sym e ∙ at)) (record { drawn = k.2; claims = k.4; taken = k.5.taken; ended = l })
 taken workers limit in_round v w c d (Err x) o e k l = λ t at. absurd (none-some t (sym e ∙ at))
@@ -170,6 +171,37 @@ module _ (c : Counter) (workers limit r : ℕ) where
   members_long k (s ∷ ss) [] h = absurd h
   members_long k (s ∷ ss) (m ∷ ms) h = ap suc (members_long (k + 1) ss ms h.1)
 
+  -- of one member the numbers drawn rise
+  pub rising_one : (k : ℕ) (seats : List Sitting) (ms : List Member) → length seats ≡ 1 → AllZip (HasWorked workers limit r) (members_from c k seats) ms → AllPairs (λ a b. a < b) (drawn_of_all ms)
+  rising_one k [] ms one h = absurd (omega arith)
+  rising_one k (s ∷ []) [] one h = absurd h
+  rising_one k (s ∷ []) (m ∷ []) one h = subst (AllPairs (λ a b. a < b)) (sym (append-nil m.claim.view.drawn)) (h.0.rising (λ i j d less low. absurd (omega arith)))
+  rising_one k (s ∷ []) (m ∷ (n ∷ ms)) one h = absurd h.1
+  rising_one k (s ∷ (t ∷ ss)) ms one h = absurd (omega arith)
+
+-- ---- one worker
+
+-- one column is as it stands
+transposed-one : (rows n : ℕ) → transposed 1 rows n ≡ n
+transposed-one rows n = grind arith
+
+candidates-one : (variables a n : ℕ) → candidates_of 1 variables (range_with_len a n) ≡ range_with_len (a + 1) n
+candidates-one variables a zero = refl
+candidates-one variables a (suc n) = (λ i. (transposed-one (variables / 1) a i + 1) ∷ candidates-one variables (a + 1) n i)
+
+-- the only shift
+only : (ss : List WorkerShift) (s : WorkerShift) → length ss ≡ 1 → slice_get ss 0 ≡ Some s → flat_map (λ t. t.taken.items) ss ≡ s.taken.items
+only [] s one at = absurd (omega arith)
+only (t ∷ []) s one at = append-nil t.taken.items ∙ ap (λ (z : WorkerShift). z.taken.items) (same_Some t s at)
+only (t ∷ (u ∷ ss)) s one at = absurd (omega arith)
+
+in_order : (workers variables bound : ℕ) (ss : List WorkerShift) (drawn : List ℕ) → flat_map (λ s. s.taken.items) ss ≡ candidates_of workers variables drawn → ((x : ℕ) → times x drawn ≡ once_below x bound)
+    → AllPairs (λ a b. a < b) drawn → workers ≡ 1 → length ss ≡ 1 → (s : WorkerShift) → slice_get ss 0 ≡ Some s → IsInOrder s
+in_order workers variables bound ss drawn e d up w one s at =
+    let is : s.taken.items ≡ range_with_len 1 (length drawn) = sym (only ss s one at) ∙ (e ∙ (ap (λ (k : ℕ). candidates_of k variables drawn) w
+    ∙ (ap (candidates_of 1 variables) (first_numbers bound drawn up d) ∙ candidates-one variables 0 (length drawn)))) in
+    is ∙ ap (range_with_len 1) (sym (ap length is ∙ length-range_with_len 1 (length drawn)))
+
 -- ---- counts
 
 abbrev at_zero : ℕ → ℕ
@@ -257,6 +289,7 @@ round_from y c workers limit r seats ms ss v word bound some are h e is drawn en
           let b : ends (all_shares v) ≡ ends (share 0 ∷ claim_shares ms) = ap (λ (z : View). ends (all_shares z)) view in
           let past = ended (omega arith) in
           taken_each workers variables ss (drawn_of_all ms) (min c.limit word) t d (omega arith) x low high;
+      in_order = λ w one. in_order workers variables (min c.limit word) ss (drawn_of_all ms) t d (rising_one c workers limit r 1 seats ms one h) w (sym (length-some ss) ∙ (sym (ap length e) ∙ (length-shifts ms ∙ (long ∙ one))));
     }
   where
     length-map : (ms : List Member) → length (seats_of ms) ≡ length ms

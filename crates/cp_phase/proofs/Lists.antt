@@ -1,12 +1,16 @@
--- Lists read by place, cut in rows, filtered twice, and numbered.
-use Rattle.std.proofs.Common.{◌≡◌, ℕ, zero, suc, ◌+◌, ◌<◌, ◌≤◌, Bool, true, false, cond, ◌⊎◌, List, [], ◌∷◌, ◌++◌, length, take, drop, get_or, slice_get, Some, All, AllPairs, Contains, filter, refl, sym, ap, subst, ◌∙◌, inl, inr, ⊎_elim, arith, take_all, append-nil, length-drop}
-use Rattle.std.specs.List.{AllZip, enumerate_from}
+-- Lists read by place, cut in rows, filtered twice, and numbered; and ascending numbers.
+use Rattle.std.proofs.Common.{◌≡◌, ◌≢◌, ℕ, zero, suc, ◌+◌, ◌<◌, ◌≤◌, Bool, true, false, cond, ◌⊎◌, List, [], ◌∷◌, ◌++◌, length, take, drop, get_or, slice_get, Some, All, AllPairs, Contains, filter, refl, sym, ap, subst, ◌∙◌, inl, inr, ⊎_elim, arith, take_all, append-nil, length-drop}
+use Rattle.std.specs.Prelude.{◌==◌, if◌then◌else◌}
+use Rattle.std.specs.List.{AllZip, enumerate_from, range_with_len}
+use Rattle.std.proofs.lemmas.Bool.{cases_lt}
+use Rattle.std.proofs.lemmas.List.Sums.{sum_by-cons}
 use Rattle.std.proofs.lemmas.List.{take-append-le, drop-append-le, drop_all}
 use Rattle.std.proofs.lemmas.List.Elements.{All-append, All-contains}
 use Rattle.std.proofs.lemmas.List.Kept.{AllPairs-cons}
 use Rattle.std.proofs.lemmas.List.FromFn.{length-enumerate_from, get_or-enumerate_from}
 use Rattle.std.proofs.Math.Seq.{drop-append_seam}
 use Rattle.std.proofs.lemmas.Option.{none-some, same_Some}
+use Rattle.cp_claim.specs.Views.{times, once_below}
 use Rattle.cp_logic.proofs.Members.{none_in, in_here, in_later, in_cases}
 
 module _ {A : Type 0} where
@@ -104,3 +108,53 @@ zip_from R [] [] e h = tt
 zip_from R [] (y ∷ ys) e h = absurd (omega arith)
 zip_from R (x ∷ xs) [] e h = absurd (omega arith)
 zip_from R (x ∷ xs) (y ∷ ys) e h = (h 0 x (omega arith), zip_from R xs ys (omega arith) (λ i d low. h (suc i) d (omega arith)))
+
+-- ---- ascending numbers
+
+-- how often the number stands at the front
+abbrev here : ℕ → ℕ → ℕ
+here x y = if y == x then 1 else 0
+
+times-here : (x : ℕ) → here x x ≡ 1
+times-here x = grind arith
+
+times-else : (x y : ℕ) → x ≢ y → here x y ≡ 0
+times-else x y apart = grind arith
+
+times-above : (x : ℕ) (ys : List ℕ) → All (λ y. x < y) ys → times x ys ≡ 0
+times-above x [] above = refl
+times-above x (y ∷ ys) above =
+    let a : times x (y ∷ ys) ≡ here x y + times x ys = sum_by-cons (here x) y ys in let b = times-else x y (λ e. let t = above 0 x (omega arith) in omega arith) in let c = times-above x ys (λ k d low. above (suc k) d (omega arith)) in omega arith
+
+-- ascending numbers from a on, where below each of them stand all others from a on, are a, a + 1, ..
+pub counts_up : (a : ℕ) (xs : List ℕ) → AllPairs (λ x y. x < y) xs → All (λ x. a ≤ x) xs → ((x y : ℕ) → a ≤ x → x < y → 0 < times y xs → 0 < times x xs) → xs ≡ range_with_len a (length xs)
+counts_up a [] up from all = refl
+counts_up a (y ∷ ys) up from all = ap (λ z. z ∷ ys) first ∙ ap (λ zs. a ∷ zs) (counts_up (a + 1) ys (λ i j d less low. up (suc i) (suc j) d (omega arith) (omega arith)) later rest)
+  where
+    above : All (λ z. y < z) ys
+    above k d low = up 0 (suc k) d (omega arith) (omega arith)
+
+    first : y ≡ a
+    first = ⊎_elim
+        (λ (less : a < y).
+        let own : times y (y ∷ ys) ≡ here y y + times y ys = sum_by-cons (here y) y ys in let one = times-here y in
+        let found = all a y (omega arith) less (omega arith) in
+        let a' : times a (y ∷ ys) ≡ here a y + times a ys = sum_by-cons (here a) y ys in let b = times-else a y (λ e. omega arith) in
+        let c = times-above a ys (λ k d low. let t = above k d low in omega arith) in absurd (omega arith))
+        (λ (ge : y ≤ a). let low = from 0 a (omega arith) in (let e : y ≡ a = omega arith in e))
+        (cases_lt a y)
+
+    later : All (λ z. a + 1 ≤ z) ys
+    later k d low = let t = above k d low in let e = first in omega arith
+
+    rest : (x z : ℕ) → a + 1 ≤ x → x < z → 0 < times z ys → 0 < times x ys
+    rest x z low less some =
+        let e = first in let m : times z (y ∷ ys) ≡ here z y + times z ys = sum_by-cons (here z) y ys in let found = all x z (omega arith) less (omega arith) in
+        let n : times x (y ∷ ys) ≡ here x y + times x ys = sum_by-cons (here x) y ys in let none = times-else x y (λ q. omega arith) in omega arith
+
+-- ascending numbers of which each below the bound stands once, and no other stands, are 0, 1, ..
+pub first_numbers : (n : ℕ) (xs : List ℕ) → AllPairs (λ x y. x < y) xs → ((x : ℕ) → times x xs ≡ once_below x n) → xs ≡ range_with_len 0 (length xs)
+first_numbers n xs up each = counts_up 0 xs up (λ k d low. omega arith) (λ x y from less some. let a = each x in let b = each y in let c = once-before x y less (omega arith) in omega arith)
+  where
+    once-before : (x y : ℕ) → x < y → 0 < once_below y n → once_below x n ≡ 1
+    once-before x y less some = grind arith

@@ -30,8 +30,15 @@ in_earlier f workers limit number r noted ns posts same s p a = record {
   notes = a.notes;
   there = at_front noted (ns ∷ []) r (slice_get_within noted r a.notes a.there) ∙ a.there;
   drawn = a.drawn;
-  shift = subst (λ (ps : List (ℕ × Post)). IsShift f number (r + 1) workers limit a.notes ps a.drawn s) (sym p) a.shift;
+  before = a.before;
+  first = a.first;
+  shift = subst (λ (ps : List (ℕ × Post)). IsShift f number (r + 1) workers limit a.before a.notes ps a.drawn s) (sym p) a.shift;
 }
+
+-- where there was no round nothing was posted
+none-posted : (b : ℕ) (posts : List (ℕ × Post)) → All (λ q. (1 ≤ q.1.round) × (q.1.round ≤ b)) posts → b ≡ 0 → length posts ≡ 0
+none-posted b [] range e = refl
+none-posted b (q ∷ posts) range e = let r = range 0 q (omega arith) in absurd (omega (arith, r.0, r.1, e))
 
 -- ---- rows
 
@@ -64,7 +71,7 @@ module _ (n b : ℕ) (shifts ss : List WorkerShift) (long : length shifts ≡ b 
   -- ---- one worker
 
   done_next : (f : Base) (limit i : ℕ) (notes noted now : List Note) (old posted new : List (ℕ × Post)) (drawn : List ℕ) (s : WorkerShift) → i < n → slice_get ss i ≡ Some s
-      → AreDone f limit n i b shifts notes old → now ≡ notes ++ noted → new ≡ old ++ posted → IsShift f (i + 1) (b + 1) n limit noted posted drawn s
+      → AreDone f limit n i b shifts notes old → now ≡ notes ++ noted → new ≡ old ++ posted → IsShift f (i + 1) (b + 1) n limit (length old) noted posted drawn s
       → AreDone f limit n i (b + 1) (shifts ++ ss) now new
   done_next f limit i notes noted now old posted new drawn s low at d g e shift = record {
     range = subst (All (λ q. (1 ≤ q.1.round) × (q.1.round ≤ b + 1))) (sym e)
@@ -108,7 +115,9 @@ module _ (n b : ℕ) (shifts ss : List WorkerShift) (long : length shifts ≡ b 
         notes = noted;
         there = at_back d.noted (noted ∷ []) 0 b (let n = d.rounds in omega arith);
         drawn = drawn;
-        shift = subst (λ (ps : List (ℕ × Post)). IsShift f (i + 1) (b + 1) n limit noted ps drawn s) (sym latest) shift;
+        before = length old;
+        first = λ e. none-posted b old d.range e;
+        shift = subst (λ (ps : List (ℕ × Post)). IsShift f (i + 1) (b + 1) n limit (length old) noted ps drawn s) (sym latest) shift;
       }
 
   going_on : ((q : ℕ) → q < b → NoneStopped (of_round n q shifts)) → NoneStopped ss → (q : ℕ) → q < b + 1 → NoneStopped (of_round n q (shifts ++ ss))
@@ -137,6 +146,7 @@ played_start y limit n seats team are new = record {
   };
   taken_once = λ r x. subst (λ (l : List WorkerShift). times_taken x l ≤ once_in x y.base.formula.variables) (sym (row_past (r * n) n [] (omega arith))) (omega arith);
   taken_all = λ r x low. absurd (omega arith);
+  in_order = λ one r s at. absurd (none-some s at);
 }
 
 module _ (y : YardView) (limit n b : ℕ) (seats news : List Sitting) (shifts ss : List WorkerShift) (p : ArePlayed y limit n b seats shifts) (o : IsRound y n limit (b + 1) seats news ss) where
@@ -154,7 +164,7 @@ module _ (y : YardView) (limit n b : ℕ) (seats news : List Sitting) (shifts ss
         let k = o.work i v.0 w s.0 v.1 at_w s.1 in let is = p.are_seats i v.0 v.1 in
         done_next n b shifts ss p.count few y.base limit i v.0.view.own.notes k.noted w.view.own.notes v.0.view.own.posts k.posted w.view.own.posts k.drawn s.0 (omega arith) s.1
         (p.each i v.0 v.1) k.goes.notes k.goes.posts
-        (subst (λ (z : Base × ℕ). IsShift z.0 z.1 (b + 1) n limit k.noted k.posted k.drawn s.0) (λ j. (is.base j, is.number j)) k.shift);
+        (subst (λ (z : Base × ℕ). IsShift z.0 z.1 (b + 1) n limit (length v.0.view.own.posts) k.noted k.posted k.drawn s.0) (λ j. (is.base j, is.number j)) k.shift);
     taken_once = λ r x. ⊎_elim
         (λ (less : r < b). subst (λ (l : List WorkerShift). times_taken x l ≤ once_in x y.base.formula.variables) (sym (front_row n b shifts ss p.count few r less)) (p.taken_once r x))
         (λ (ge : b ≤ r). ⊎_elim
@@ -166,6 +176,10 @@ module _ (y : YardView) (limit n b : ℕ) (seats news : List Sitting) (shifts ss
         (λ (less : r < b). let row = front_row n b shifts ss p.count few r less in ap (times_taken x) row ∙ p.taken_all r x less (subst NoneStopped row none) one most)
         (λ (ge : b ≤ r). let row = last_row n b shifts ss p.count few r (let e : r ≡ b = omega arith in e) in ap (times_taken x) row ∙ o.taken_all x (subst NoneStopped row none) one most)
         (cases_lt r b);
+    in_order = λ one r s at. ⊎_elim
+        (λ k. p.in_order one r s (sym (ap (λ (m : ℕ). shift_at m r 0 shifts) one) ∙ k.1))
+        (λ k. o.in_order one (p.team ∙ one) s k.1)
+        (placed n b shifts ss p.count few 0 r s (omega arith) (ap (λ (m : ℕ). shift_at m r 0 (shifts ++ ss)) one ∙ at));
   }
 
   pub going_next : ((q : ℕ) → q < b → NoneStopped (of_round n q shifts)) → NoneStopped ss → (q : ℕ) → q < b + 1 → NoneStopped (of_round n q (shifts ++ ss))
@@ -205,6 +219,7 @@ shifts_are y limit n rounds b seats shifts h shares p ends own workers = record 
   ends = ends;
   taken_once = p.taken_once;
   taken_all = p.taken_all;
+  in_order = p.in_order;
   rising = λ r q w s t less low at_s at_t i j mi mj.
       let v = some_at seats w (let t = p.team in omega arith) in let d = p.each w v.0 v.1 in let posts = v.0.view.own.posts in
       let S : ℕ × Post → ℕ × Post → Type 0 = λ a c. a.0 < c.0 in

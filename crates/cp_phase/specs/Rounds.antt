@@ -1,6 +1,6 @@
 -- Rounds: shifts of all workers, round by round.
 use Rattle.std.specs.Prelude.{◌≡◌, ◌≢◌, ◌⊎◌, ℕ, ◌+◌, ◌*◌, ◌<◌, ◌≤◌, ◌==◌, ◌&&◌, nat_le, if◌then◌else◌, Option, Some, None, List, [], take, drop, length, slice_get}
-use Rattle.std.specs.List.{count_by, flat_map, All, Contains}
+use Rattle.std.specs.List.{count_by, flat_map, range_with_len, All, Contains}
 use Rattle.cp_logic.specs.declared.stop.Stop.{Stop}
 use Rattle.cp_logic.specs.Journals.{Post, posts_in_round}
 use Rattle.cp_yard.specs.Views.{Base, Note, Share, SeatView}
@@ -30,16 +30,23 @@ NoneStopped shifts = All (λ s. s.stopped ≡ None) shifts
 abbrev pub OneStopped : List WorkerShift → Type 0
 OneStopped shifts = (w : ℕ) × (s : WorkerShift) × (stop : Stop) × (slice_get shifts w ≡ Some s) × (s.stopped ≡ Some stop)
 
+-- the shift took the variables from 1 upwards
+abbrev pub IsInOrder : WorkerShift → Type 0
+IsInOrder s = s.taken.items ≡ range_with_len 1 (length s.taken.items)
+
 -- the notes of rounds, one round after the other
 abbrev pub all_notes : List (List Note) → List Note
 all_notes noted = flat_map (λ ns. ns) noted
 
--- the shift is what these posts and, of the notes by round, those of round r, counted from 0, come to
+-- the shift is what these posts and, of the notes by round, those of round r, counted from 0, come to; before the first round the worker had posted
+-- nothing
 pub record IsShiftIn (f : Base) (workers limit number r : ℕ) (noted : List (List Note)) (posts : List (ℕ × Post)) (s : WorkerShift) : Type 0 where
   pub notes : List Note
   pub there : slice_get noted r ≡ Some notes
   pub drawn : List ℕ
-  pub shift : IsShift f number (r + 1) workers limit notes posts drawn s
+  pub before : ℕ
+  pub first : r ≡ 0 → before ≡ 0
+  pub shift : IsShift f number (r + 1) workers limit before notes posts drawn s
 
 -- The shifts of the worker of this number in so many rounds: at r stands that of round r, counted from 0. The notes of the number's share are those
 -- of the rounds, one round after the other, and no others; each shift is over its round's notes, and its posts are just the journal's there.
@@ -60,7 +67,7 @@ pub record EndsAt (workers rounds begun : ℕ) (shifts : List WorkerShift) : Typ
 
 -- The shifts of so many workers in at most so many rounds, with this limit of a neighbourhood, after which the journal is h, and the shares of the
 -- seats are these. They stand by round and then worker. Where no shift of a round stopped, each variable was taken once in it, and else at most once;
--- and nothing else was taken.
+-- and nothing else was taken. One worker takes the variables from 1 upwards.
 pub record AreShifts (f : Base) (workers rounds limit : ℕ) (h : List Post) (shares : List Share) (shifts : List WorkerShift) : Type 0 where
   pub begun : ℕ
   pub count : length shifts ≡ begun * workers
@@ -68,6 +75,7 @@ pub record AreShifts (f : Base) (workers rounds limit : ℕ) (h : List Post) (sh
   pub ends : EndsAt workers rounds begun shifts
   pub taken_once : (r x : ℕ) → times_taken x (of_round workers r shifts) ≤ once_in x f.formula.variables
   pub taken_all : (r x : ℕ) → r < begun → NoneStopped (of_round workers r shifts) → 1 ≤ x → x ≤ f.formula.variables → times_taken x (of_round workers r shifts) ≡ 1
+  pub in_order : workers ≡ 1 → (r : ℕ) (s : WorkerShift) → shift_at 1 r 0 shifts ≡ Some s → IsInOrder s
   -- what a worker posts in an earlier round comes before what it posts in a later one
   pub rising : (r q w : ℕ) (s t : WorkerShift) → r < q → w < workers → shift_at workers r w shifts ≡ Some s → shift_at workers q w shifts ≡ Some t
       → (i j : ℕ) → Contains s.commits.items i → Contains t.commits.items j → i < j

@@ -13,7 +13,7 @@ use Rattle.cp_worker.specs.declared.lists.WorkerShift.{WorkerShift}
 use Rattle.cp_worker.specs.Candidates.{candidates_of}
 use Rattle.cp_worker.specs.Shifts.{IsShift}
 use Rattle.cp_phase.specs.declared.team.Member.{Member}
-use Rattle.cp_phase.specs.Rounds.{of_round, shift_at, times_taken, once_in, NoneStopped, all_notes, IsShiftIn}
+use Rattle.cp_phase.specs.Rounds.{of_round, shift_at, times_taken, once_in, NoneStopped, IsInOrder, all_notes, IsShiftIn}
 
 -- ---- seats
 
@@ -78,7 +78,7 @@ pub record IsWork (workers limit in_round : ℕ) (v w : SeatView) (s : WorkerShi
   pub posted : List (ℕ × Post)
   pub drawn : List ℕ
   pub goes : GoesOn v w noted posted
-  pub shift : IsShift v.base v.number in_round workers limit noted posted drawn s
+  pub shift : IsShift v.base v.number in_round workers limit (length v.own.posts) noted posted drawn s
 
 -- the shift, beside so many workers, took what the claim seat drew, and if it didn't stop the claim seat has ended
 pub record IsTaken (workers variables : ℕ) (v w : claims.View) (s : WorkerShift) : Type 0 where
@@ -94,6 +94,7 @@ pub record HasWorked (workers limit in_round : ℕ) (old new : Member) : Type 0 
   pub idle : IsIdle new.seat.view
   pub seat : Continues old.seat.view new.seat.view
   pub claim : DrawsOnly old.claim.view new.claim.view
+  pub rising : AllPairs (λ a b. a < b) old.claim.view.drawn → AllPairs (λ a b. a < b) new.claim.view.drawn
   pub work : ForSome new.shift (IsWork workers limit in_round old.seat.view new.seat.view)
   pub taken : ForSome new.shift (IsTaken workers old.seat.view.base.formula.variables old.claim.view new.claim.view)
 
@@ -105,6 +106,7 @@ pub record IsRound (y : YardView) (workers limit in_round : ℕ) (olds news : Li
   pub work : (i : ℕ) (v w : Sitting) (s : WorkerShift) → slice_get olds i ≡ Some v → slice_get news i ≡ Some w → slice_get shifts i ≡ Some s → IsWork workers limit in_round v.view w.view s
   pub taken_once : (x : ℕ) → times_taken x shifts ≤ once_in x y.base.formula.variables
   pub taken_all : (x : ℕ) → NoneStopped shifts → 1 ≤ x → x ≤ y.base.formula.variables → times_taken x shifts ≡ 1
+  pub in_order : workers ≡ 1 → length olds ≡ 1 → (s : WorkerShift) → slice_get shifts 0 ≡ Some s → IsInOrder s
 
 -- ---- all rounds until then
 
@@ -130,3 +132,4 @@ pub record ArePlayed (y : YardView) (limit workers begun : ℕ) (seats : List Si
   pub each : (i : ℕ) (v : Sitting) → slice_get seats i ≡ Some v → AreDone y.base limit workers i begun shifts v.view.own.notes v.view.own.posts
   pub taken_once : (r x : ℕ) → times_taken x (of_round workers r shifts) ≤ once_in x y.base.formula.variables
   pub taken_all : (r x : ℕ) → r < begun → NoneStopped (of_round workers r shifts) → 1 ≤ x → x ≤ y.base.formula.variables → times_taken x (of_round workers r shifts) ≡ 1
+  pub in_order : workers ≡ 1 → (r : ℕ) (s : WorkerShift) → shift_at 1 r 0 shifts ≡ Some s → IsInOrder s

@@ -60,9 +60,9 @@ fn play_all<R: Threads + Sync, G: Gate + Sync>(
 /// Lets `opts.workers` workers, 1 to 64, work for `opts.rounds` rounds, each in a thread of its own where one can be made, and joins
 /// them.
 ///
-/// In a round the workers draw each variable once between them, at the same time mostly variables that are apart. After a round in
-/// which a shift stopped no further one begins. It may wait for its threads, so its return isn't promised. The error comes only for
-/// want of memory; then all is dropped.
+/// In a round the workers draw each variable once between them, at the same time mostly variables that are apart; one worker draws
+/// them from 1 upwards. After a round in which a shift stopped no further one begins. It may wait for its threads, so its return isn't
+/// promised. The error comes only for want of memory; then all is dropped.
 pub fn rounds<R: Threads + Sync, G: Gate + Sync>(
     rt: &R,
     alloc: Global,

@@ -35,6 +35,7 @@ use Rattle.cp_top.specs.Input.{FormulaReads, ReadsFormula}
 use Rattle.cp_top.specs.Run.{HasCause, IsWritten, AreBound, SimplifiesInput, PrintsResult, PrintsFront, WriteFailed, texts_after}
 use Rattle.cp_top.specs.Steps.{Begins, Finishes, IsResult, texts_of}
 use Rattle.cp_top.proofs.TextsWritten.{none-written, written-on, written-off, grown-since, stopped-since}
+use Rattle.cp_top.proofs.OneWorker.{only_posts}
 use Rattle.cp_top.proofs.Simplifying.{swept-simplified}
 
 -- the texts, one after the other
@@ -128,6 +129,7 @@ module _ (workers : Simplify → ℕ) (words : List (List ℕ)) (old p new : Por
     worked = is.worked;
     simplified = swept-simplified f.formula o.opts.rules is.worked posts s.swept.formula.formula s.swept.stopped read.here.answer.valid is.swept is.unspent;
     team = is.team;
+    only = only_posts (workers o) o.opts.rounds o.opts.hood f.formula o.opts.rules is.worked s.shifts.items s.kept is.team;
   }
 
   texts_are : texts_of o sizes s.swept ≡ texts_after o.form f.formula posts s.swept.stopped

@@ -44,7 +44,8 @@ pub fn run<R: Threads + Sync, D: Desk, G: Gate + Sync>(
     ensures cause { HasWholeCause (map string_bytes words.now) (D.port desk.old) (D.port desk.new) result }
 
     // On `simplify`: whatever the order of the workers' steps, the journal is one legal run from what stands in Cnf, with each
-    // worker's posts in it once and in their order; Proof, Stack, Reduced and Summary grew by the texts of what it leaves.
+    // worker's posts in it once and in their order; Proof, Stack, Reduced and Summary grew by the texts of what it leaves. Without
+    // workers, and with one worker in one round, the journal is a function of the words and of what stands in Cnf.
     ensures written { IsWholeWritten (map string_bytes words.now) (D.port desk.old) (D.port desk.new) result }
 
     // The roles are bound in their order, each in its way under its name, and no other is.

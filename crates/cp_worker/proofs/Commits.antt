@@ -16,9 +16,10 @@ use Rattle.cp_logic.specs.Legality.{first_in}
 use Rattle.cp_logic.specs.Journals.{Post}
 use Rattle.cp_logic.specs.Locality.{after}
 use Rattle.cp_yard.specs.Views.{Base, Note, Got, GotTurn, Met, MetTurn, SeatView}
+use Rattle.cp_yard.specs.Rule.{clauses_at}
 use Rattle.cp_hood.specs.Hoods.{HoodView, centre_clauses}
 use Rattle.cp_hood.specs.Seats.{GoesOn, EndWith, met_turns}
-use Rattle.cp_hood.specs.Commits.{left_by, post_after, GetsTurn}
+use Rattle.cp_hood.specs.Commits.{left_by, post_after, GetsTurn, IsSameHood, IsCurrent}
 use Rattle.cp_hood.proofs.Going.{GoesOn-none, GoesOn-then}
 use Rattle.cp_hood.specs.Tries.{IsWhole, IsCut, IsTooWide, gots, other_cells}
 use Rattle.cp_hood.specs.declared.answers.CommitAnswer.{CommitAnswer}
@@ -86,6 +87,7 @@ goes_on v w u x in_round cs rules old new e listed now noted posted at same foun
           ∙ ap (λ z. after (clauses_after x cs way.posted) z (numbered n e)) at ∙ sym (clauses_after-more x cs way.posted (q ∷ []));
       each = found-more v.base x cs way.posted q way.noted noted p.before way.each p.turn (record {
         position = refl;
+        clauses = sym way.clauses ∙ p.current ∙ ap (λ (f : Base). clauses_at f p.before old.centre) way.goes.base ∙ ap (clauses_at v.base p.before) at;
         found = e;
         first = searched;
         entry = ap (λ (f : Base). numbered (left_by f p.before).next e) way.goes.base;
@@ -109,14 +111,14 @@ EndWith-later n before noted (first, e) = (before ++ first, ap (λ (ns : List No
 
 -- where an entry is refused at last
 pub refuses : (v w : SeatView) (x in_round : ℕ) (cs now : List Named) (listed : List ℕ) (noted : List Note) (way : IsUnderWay v w x in_round cs now listed)
-    (e : Entry) (a : CommitAnswer) (answer : AtAnswer) → first_in now v.base.rules 1 x ≡ Some e → IsRefusal w.base e noted a → commits_of answer ≡ listed → IsCauseOf a answer
+    (e : Entry) (a : CommitAnswer) (answer : AtAnswer) → first_in now v.base.rules 1 x ≡ Some e → IsRefusal w.base x now e noted a → commits_of answer ≡ listed → IsCauseOf a answer
     → AreCommits v.base v.number x in_round cs (way.noted ++ noted) way.posted answer
 refuses v w x in_round cs now listed noted way e a answer found r lists cause = record {
   commits = lists ∙ way.commits;
   posts = way.posts;
   at = way.at;
   cause = cause v.base x cs e way.noted noted way.posted way.each (ap (λ (ds : List Named). first_in ds v.base.rules 1 x) (sym way.clauses) ∙ found)
-      (subst (λ (f : Base). IsRefusal f e noted a) way.goes.base r);
+      (subst (λ (f : Base). IsRefusal f x (clauses_after x cs way.posted) e noted a) way.goes.base (subst (λ (ds : List Named). IsRefusal w.base x ds e noted a) way.clauses r));
 }
 
 -- each refusal of an entry, as a cause
@@ -124,41 +126,49 @@ pub caused-late : (by : ℕ) (commits : Roomy ℕ) → IsCauseOf (TurnHeld by) (
 caused-late by commits f x cs e turns last posted all found r = (e, turns, last, refl, all, r, found)
 
 pub caused-refuted : (empty : ℕ) (commits : Roomy ℕ) → IsCauseOf (Refuted empty) (Stopped ForRefutation commits)
-caused-refuted empty commits f x cs e turns last posted all found (h, r, stop) = (e, h, turns, last, refl, all, r, found, stop)
+caused-refuted empty commits f x cs e turns last posted all found (h, r, same, stop) = (e, h, turns, last, refl, all, r, same, found, stop)
 
 pub caused-spent : (len : ℕ) (commits : Roomy ℕ) → IsCauseOf (Spent len) (Stopped ForBudget commits)
-caused-spent len commits f x cs e turns last posted all found (h, r, stop) = (e, h, turns, last, refl, all, r, found, stop)
+caused-spent len commits f x cs e turns last posted all found (h, r, same, stop) = (e, h, turns, last, refl, all, r, same, found, stop)
 
 pub caused-numbers : (next : ℕ) (commits : Roomy ℕ) → IsCauseOf (Numbers next) (Stopped ForNumbers commits)
-caused-numbers next commits f x cs e turns last posted all found (h, r, stop) = (e, h, turns, last, refl, all, r, found, stop)
+caused-numbers next commits f x cs e turns last posted all found (h, r, same, stop) = (e, h, turns, last, refl, all, r, same, found, stop)
 
 pub refused-goes : (v w u : SeatView) (x in_round : ℕ) (cs now : List Named) (listed : List ℕ) (noted : List Note) (posted : List (ℕ × Post)) (way : IsUnderWay v w x in_round cs now listed)
     → GoesOn w u noted posted → posted ≡ [] → GoesOn v u (way.noted ++ noted) way.posted
 refused-goes v w u x in_round cs now listed noted posted way go e =
     subst (GoesOn v u (way.noted ++ noted)) (ap (λ (ps : List (ℕ × Post)). way.posted ++ ps) e ∙ append-nil way.posted) (GoesOn-then v w u way.noted noted way.posted posted way.goes go)
 
+-- a hood that is prepared keeps the clauses of its centre
+pub current-same : (f : Base) (h : List Post) (old between : HoodView) → IsSameHood old between → IsCurrent f h between → IsCurrent f h old
+current-same f h old between s c = sym s.clauses ∙ c ∙ ap (clauses_at f h) s.centre
+
 -- ---- a whole visit
 
+-- a try of the neighbourhood posts nothing
+pub unposted : (v w : SeatView) (noted : List Note) → GoesOn v w noted [] → length w.own.posts ≡ length v.own.posts
+unposted v w noted go = ap length (go.posts ∙ append-nil v.own.posts)
+
 -- one try more, which met a held lock
-pub tried_again : (u v w : SeatView) (x limit : ℕ) (held : List (List Note)) (notes : List Note) (var by : ℕ) → All (IsHeld x limit) held → GoesOn u v (notes_of held) [] → GoesOn v w notes [] → IsCut x limit notes var by
-    → All (IsHeld x limit) (held ++ notes ∷ []) × GoesOn u w (notes_of (held ++ notes ∷ [])) []
-tried_again u v w x limit held notes var by all g h cut = (
-  All-push (IsHeld x limit) held notes all (var, by, cut),
+pub tried_again : (u v w : SeatView) (x limit before : ℕ) (held : List (List Note)) (notes : List Note) (var by : ℕ) → All (IsHeld x limit before) held → GoesOn u v (notes_of held) [] → GoesOn v w notes [] → IsCut x limit before notes var by
+    → All (IsHeld x limit before) (held ++ notes ∷ []) × GoesOn u w (notes_of (held ++ notes ∷ [])) []
+tried_again u v w x limit before held notes var by all g h cut = (
+  All-push (IsHeld x limit before) held notes all (var, by, cut),
   subst (λ (ns : List Note). GoesOn u w ns []) (ap (λ (ns : List Note). notes_of held ++ ns) (sym (append-nil notes)) ∙ sym (flat_map-append (λ (t : List Note). t) held (notes ∷ [])))
       (GoesOn-then u v w (notes_of held) notes [] [] g h),
 )
 
-module _ (f : Base) (number x in_round limit : ℕ) (held : List (List Note)) (last : List Note) (few : length held < hood_tries) (each : All (IsHeld x limit) held) where
+module _ (f : Base) (number x in_round limit before : ℕ) (held : List (List Note)) (last : List Note) (few : length held < hood_tries) (each : All (IsHeld x limit before) held) where
   -- the whole neighbourhood was got
-  visit-locked : (noted : List Note) (posted : List (ℕ × Post)) (answer : AtAnswer) → EndsLocked f number x in_round limit last noted posted answer → EndsVisit f number x in_round limit (length held) last noted posted answer
+  visit-locked : (noted : List Note) (posted : List (ℕ × Post)) (answer : AtAnswer) → EndsLocked f number x in_round limit before last noted posted answer → EndsVisit f number x in_round limit before (length held) last noted posted answer
   visit-locked noted posted (Settled commits) h = h
   visit-locked noted posted (Busy var by) h = absurd (h.2.cause)
   visit-locked noted posted (Wide count) h = absurd (h.2.cause)
   visit-locked noted posted (Late by commits) h = h
   visit-locked noted posted (Stopped stop commits) h = h
 
-  pub visit-of : (noted : List Note) (posted : List (ℕ × Post)) (answer : AtAnswer) → EndsLocked f number x in_round limit last noted posted answer
-      → IsVisit f number x in_round limit ((notes_of held ++ last) ++ noted) posted answer
+  pub visit-of : (noted : List Note) (posted : List (ℕ × Post)) (answer : AtAnswer) → EndsLocked f number x in_round limit before last noted posted answer
+      → IsVisit f number x in_round limit before ((notes_of held ++ last) ++ noted) posted answer
   visit-of noted posted answer h = record {
     held = held;
     last = last;
@@ -172,20 +182,20 @@ module _ (f : Base) (number x in_round limit : ℕ) (held : List (List Note)) (l
   notes-are : notes_of held ++ last ≡ notes_of held ++ (last ++ [])
   notes-are = ap (λ (ns : List Note). notes_of held ++ ns) (sym (append-nil last))
 
-  pub visit-busy : (var by : ℕ) → length held + 1 ≡ hood_tries → IsCut x limit last var by → IsVisit f number x in_round limit (notes_of held ++ last) [] (Busy var by)
+  pub visit-busy : (var by : ℕ) → length held + 1 ≡ hood_tries → IsCut x limit before last var by → IsVisit f number x in_round limit before (notes_of held ++ last) [] (Busy var by)
   visit-busy var by enough cut = record { held = held; last = last; later = []; notes = notes-are; few = few; each = each; ended = (enough, cut, refl, refl) }
 
-  pub visit-wide : (count : ℕ) → IsTooWide x limit last count → IsVisit f number x in_round limit (notes_of held ++ last) [] (Wide count)
+  pub visit-wide : (count : ℕ) → IsTooWide x limit before last count → IsVisit f number x in_round limit before (notes_of held ++ last) [] (Wide count)
   visit-wide count wide = record { held = held; last = last; later = []; notes = notes-are; few = few; each = each; ended = (wide, refl, refl) }
 
-pub visited : (v w : SeatView) (x in_round limit : ℕ) (held : List (List Note)) (last noted : List Note) (posted : List (ℕ × Post)) (h : HoodView) {E : Type 0} (r : Result AtAnswer E)
-    → GoesOn v w (notes_of held ++ last) [] → length held < hood_tries → All (IsHeld x limit) held → IsWhole x limit last h
+pub visited : (v w : SeatView) (x in_round limit before : ℕ) (held : List (List Note)) (last noted : List Note) (posted : List (ℕ × Post)) (h : HoodView) {E : Type 0} (r : Result AtAnswer E)
+    → GoesOn v w (notes_of held ++ last) [] → length held < hood_tries → All (IsHeld x limit before) held → IsWhole x limit before last h
     → IfOk r (AreCommits w.base w.number h.centre in_round (centre_clauses h) noted posted)
-    → IfOk r (IsVisit v.base v.number x in_round limit ((notes_of held ++ last) ++ noted) posted)
-visited v w x in_round limit held last noted posted h r go few each whole under =
+    → IfOk r (IsVisit v.base v.number x in_round limit before ((notes_of held ++ last) ++ noted) posted)
+visited v w x in_round limit before held last noted posted h r go few each whole under =
     let cs = centre_clauses h in
-    IfOk-weaker r (AreCommits w.base w.number h.centre in_round cs noted posted) (IsVisit v.base v.number x in_round limit ((notes_of held ++ last) ++ noted) posted)
-    (λ a c. visit-of v.base v.number x in_round limit held last few each noted posted a (
+    IfOk-weaker r (AreCommits w.base w.number h.centre in_round cs noted posted) (IsVisit v.base v.number x in_round limit before ((notes_of held ++ last) ++ noted) posted)
+    (λ a c. visit-of v.base v.number x in_round limit before held last few each noted posted a (
       h,
       whole,
       subst (λ (z : Base × (ℕ × ℕ)). AreCommits z.0 z.1.0 z.1.1 in_round cs noted posted a) (λ i. (go.base i, (go.number i, whole.centre i))) c,
@@ -194,21 +204,21 @@ visited v w x in_round limit held last noted posted h r go few each whole under 
 
 -- ---- what a shift needs of a visit
 
-cut-end : (x limit : ℕ) (notes : List Note) (var by : ℕ) → IsCut x limit notes var by → EndWith (Met var by) notes
-cut-end x limit notes var by (inl (e, n)) = ([], n ∙ ap (λ z. Met z by ∷ []) (sym e))
-cut-end x limit notes var by (inr (cs, got, left, within, order, n)) = (Got x cs ∷ gots got, n)
+cut-end : (x limit before : ℕ) (notes : List Note) (var by : ℕ) → IsCut x limit before notes var by → EndWith (Met var by) notes
+cut-end x limit before notes var by (inl (e, n)) = ([], n ∙ ap (λ z. Met z by ∷ []) (sym e))
+cut-end x limit before notes var by (inr (cs, got, left, within, order, n)) = (Got x cs before ∷ gots before got, n)
 
 -- the cause of its end, among its notes
 abbrev pub IsSeen : Base → ℕ → ℕ → List Note → List (ℕ × Post) → AtAnswer → Type 0
 IsSeen f x limit noted posted (Settled commits) = IsSettled f x noted posted
 IsSeen f x limit noted posted (Busy var by) = EndWith (Met var by) noted
-IsSeen f x limit noted posted (Wide count) = (cs : List Named) × EndWith (Got x cs) noted × (count ≡ length (neighbourhood cs x)) × (limit < count)
+IsSeen f x limit noted posted (Wide count) = (cs : List Named) × (n : ℕ) × EndWith (Got x cs n) noted × (count ≡ length (neighbourhood cs x)) × (limit < count)
 IsSeen f x limit noted posted (Late by commits) = EndWith (MetTurn by) noted
 IsSeen f x limit noted posted (Stopped stop commits) = EndsStopped f x noted posted stop
 
-module _ (f : Base) (number x in_round limit : ℕ) (noted : List Note) (posted : List (ℕ × Post)) where
+module _ (f : Base) (number x in_round limit before : ℕ) (noted : List Note) (posted : List (ℕ × Post)) where
   abbrev Front : AtAnswer → Type 0
-  Front answer = IsVisit f number x in_round limit noted posted answer
+  Front answer = IsVisit f number x in_round limit before noted posted answer
 
   ends : (answer : AtAnswer) (v : Front answer) (n : Note) (turns last : List Note) → v.later ≡ turns ++ last → EndWith n last → EndWith n noted
   ends answer v n turns last e w = subst (EndWith n) (sym v.notes)
@@ -218,17 +228,17 @@ module _ (f : Base) (number x in_round limit : ℕ) (noted : List Note) (posted 
   ends-last answer v n e w = subst (EndWith n) (sym (v.notes ∙ ap (λ (ns : List Note). notes_of v.held ++ ns) (ap (λ (ns : List Note). v.last ++ ns) e ∙ append-nil v.last)))
       (EndWith-later n (notes_of v.held) v.last w)
 
-  gives : (answer : AtAnswer) (v : Front answer) (h : HoodView) (o : Option Entry) → IsWhole x limit v.last h → first_in (clauses_after x (centre_clauses h) posted) f.rules 1 x ≡ o → Gives f x noted posted o
+  gives : (answer : AtAnswer) (v : Front answer) (h : HoodView) (o : Option Entry) → IsWhole x limit before v.last h → first_in (clauses_after x (centre_clauses h) posted) f.rules 1 x ≡ o → Gives f x noted posted o
   gives answer v h o whole found =
-      (notes_of v.held, centre_clauses h, gots (other_cells x h.cells) ++ v.later, v.notes ∙ ap (λ (ns : List Note). notes_of v.held ++ (ns ++ v.later)) whole.notes, found)
+      (notes_of v.held, centre_clauses h, before, gots before (other_cells x h.cells) ++ v.later, v.notes ∙ ap (λ (ns : List Note). notes_of v.held ++ (ns ++ v.later)) whole.notes, found)
 
   pub seen : (answer : AtAnswer) → Front answer → IsSeen f x limit noted posted answer
   seen (Settled commits) v = let (h, whole, c) = v.ended in gives (Settled commits) v h None whole c.cause.1
-  seen (Busy var by) v = ends-last (Busy var by) v (Met var by) v.ended.2 (cut-end x limit v.last var by v.ended.1)
-  seen (Wide count) v = let (cs, n, e, l) = v.ended.0 in (cs, ends-last (Wide count) v (Got x cs) v.ended.1 ([], n), e, l)
+  seen (Busy var by) v = ends-last (Busy var by) v (Met var by) v.ended.2 (cut-end x limit before v.last var by v.ended.1)
+  seen (Wide count) v = let (cs, n, e, l) = v.ended.0 in (cs, before, ends-last (Wide count) v (Got x cs before) v.ended.1 ([], n), e, l)
   seen (Late by commits) v = let (h, whole, c) = v.ended in let (e, turns, last, n, all, t, found) = c.cause in
       ends (Late by commits) v (MetTurn by) turns last n (met_turns t.0, t.2)
-  seen (Stopped stop commits) v = let (h, whole, c) = v.ended in let (e, j, turns, last, n, all, t, found, refused) = c.cause in
+  seen (Stopped stop commits) v = let (h, whole, c) = v.ended in let (e, j, turns, last, n, all, t, same, found, refused) = c.cause in
       (j, e, ends (Stopped stop commits) v (GotTurn j) turns last n (met_turns t.0, t.2), gives (Stopped stop commits) v h (Some e) whole found, refused)
 
   pub commits_are : (answer : AtAnswer) → Front answer → commits_of answer ≡ positions posted

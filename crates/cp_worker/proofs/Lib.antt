@@ -4,3 +4,4 @@ pub mod Commits
 pub mod Permuted
 pub mod Shifting
 pub mod Crossing
+pub mod Rising

@@ -1,5 +1,5 @@
 -- What a shift lists of one visit.
-use Rattle.std.specs.Prelude.{◌≡◌, ℕ, Option, Some, List, [], ◌∷◌, ◌++◌}
+use Rattle.std.specs.Prelude.{◌≡◌, ℕ, Option, Some, None, List, [], ◌∷◌, ◌++◌}
 use Rattle.cp_logic.specs.declared.stop.Stop.{Stop}
 use Rattle.cp_worker.specs.declared.answer.AtAnswer.{AtAnswer}
 use Rattle.cp_worker.specs.declared.answer.AtAnswer.TheVariants.{Settled, Busy, Wide, TurnHeld, Stopped}
@@ -30,6 +30,14 @@ wide_of x (Busy var by) = []
 wide_of x (Wide count) = record { at = x; count = count } ∷ []
 wide_of x (TurnHeld by commits) = []
 wide_of x (Stopped stop commits) = []
+
+-- why the run stopped, if the visit found that it has
+abbrev pub stop_of : AtAnswer → Option Stop
+stop_of (Settled commits) = None
+stop_of (Busy var by) = None
+stop_of (Wide count) = None
+stop_of (TurnHeld by commits) = None
+stop_of (Stopped stop commits) = Some stop
 
 -- why the run stopped, if the visit found that it has, and else what was known before
 abbrev pub stopped_after : AtAnswer → Option Stop → Option Stop

@@ -1,5 +1,5 @@
 -- A shift: the visits of one worker in one round.
-use Rattle.std.specs.Prelude.{◌≡◌, ◌⊎◌, ℕ, ◌<◌, Option, Some, None, List, [], ◌∷◌, map, length, ◌++◌}
+use Rattle.std.specs.Prelude.{◌≡◌, ◌⊎◌, ℕ, ◌+◌, ◌<◌, Option, Some, None, List, [], ◌∷◌, map, length, ◌++◌}
 use Rattle.std.specs.List.{flat_map, All, Contains}
 use Rattle.cp_logic.specs.declared.named.Named.{Named}
 use Rattle.cp_logic.specs.declared.stop.Stop.{Stop}
@@ -16,14 +16,14 @@ use Rattle.cp_worker.specs.declared.lists.LateAt.{LateAt}
 use Rattle.cp_worker.specs.declared.lists.WideAt.{WideAt}
 use Rattle.cp_worker.specs.declared.lists.WorkerShift.{WorkerShift}
 use Rattle.cp_worker.specs.Visits.{positions, clauses_after, IsPostOf, IsVisit}
-use Rattle.cp_worker.specs.Listing.{busy_of, late_of, wide_of}
+use Rattle.cp_worker.specs.Listing.{busy_of, late_of, wide_of, stop_of}
 use Rattle.cp_worker.specs.Candidates.{candidates_of}
 
 -- x was got with some clauses, and among those, after these posts, the search gives this
 abbrev pub Gives : Base → ℕ → List Note → List (ℕ × Post) → Option Entry → Type 0
 Gives f x noted posted found =
-    (before : List Note) × (cs : List Named) × (more : List Note)
-    × (noted ≡ before ++ Got x cs ∷ more) × (first_in (clauses_after x cs posted) f.rules 1 x ≡ found)
+    (before : List Note) × (cs : List Named) × (n : ℕ) × (more : List Note)
+    × (noted ≡ before ++ Got x cs n ∷ more) × (first_in (clauses_after x cs posted) f.rules 1 x ≡ found)
 
 -- and there, after these posts, nothing applies
 abbrev pub IsSettled : Base → ℕ → List Note → List (ℕ × Post) → Type 0
@@ -41,7 +41,7 @@ abbrev pub IsLate : List Note → LateAt → Type 0
 IsLate noted l = Contains noted (MetTurn l.by)
 
 abbrev pub IsWide : ℕ → List Note → WideAt → Type 0
-IsWide limit noted w = (cs : List Named) × Contains noted (Got w.at cs) × (w.count ≡ length (neighbourhood cs w.at)) × (limit < w.count)
+IsWide limit noted w = (cs : List Named) × (n : ℕ) × Contains noted (Got w.at cs n) × (w.count ≡ length (neighbourhood cs w.at)) × (limit < w.count)
 
 -- the candidate is in a list, with its cause, or is settled: got, and after some of these posts nothing applied there
 abbrev pub IsAccounted : Base → List Note → List (ℕ × Post) → WorkerShift → ℕ → Type 0
@@ -67,14 +67,28 @@ pub record Visited : Type 0 where
   pub noted : List Note
   pub posted : List (ℕ × Post)
 
--- What a shift of the worker in the round comes to, with the numbers that it drew, beside so many workers. It is the visits of their candidates, one
--- after the other: their notes and posts are all that was noted and posted, and the lists are those of their answers, in this order.
-pub record IsShift (f : Base) (number in_round workers limit : ℕ) (noted : List Note) (posted : List (ℕ × Post)) (drawn : List ℕ) (s : WorkerShift) : Type 0 where
+-- visits of the worker in the round, one after the other, the first after so many of its posts
+abbrev pub AreVisits : Base → ℕ → ℕ → ℕ → ℕ → List Visited → Type 0
+AreVisits f number in_round limit before [] = Unit {0}
+AreVisits f number in_round limit before (v ∷ vs) =
+    IsVisit f number v.at in_round limit before v.noted v.posted v.answer × AreVisits f number in_round limit (before + length v.posted) vs
+
+-- only the last visit may find that the run has stopped, and why
+abbrev pub EndsIn : Option Stop → List Visited → Type 0
+EndsIn stopped [] = stopped ≡ None
+EndsIn stopped (v ∷ []) = stopped ≡ stop_of v.answer
+EndsIn stopped (v ∷ w ∷ vs) = (stop_of v.answer ≡ None) × EndsIn stopped (w ∷ vs)
+
+-- What a shift of the worker in the round comes to, with the numbers that it drew, beside so many workers, and after so many posts of its own. It is
+-- the visits of their candidates, one after the other: their notes and posts are all that was noted and posted, and the lists are those of their
+-- answers, in this order.
+pub record IsShift (f : Base) (number in_round workers limit before : ℕ) (noted : List Note) (posted : List (ℕ × Post)) (drawn : List ℕ) (s : WorkerShift) : Type 0 where
   pub worker : s.worker ≡ number
   pub round : s.round ≡ in_round
   pub taken : s.taken.items ≡ candidates_of workers f.formula.variables drawn
   pub visits : List Visited
-  pub each : All (λ v. IsVisit f number v.at in_round limit v.noted v.posted v.answer) visits
+  pub each : AreVisits f number in_round limit before visits
+  pub ends : EndsIn s.stopped visits
   pub visited : s.taken.items ≡ map (λ v. v.at) visits
   pub notes : noted ≡ flat_map (λ v. v.noted) visits
   pub posted_are : posted ≡ flat_map (λ v. v.posted) visits

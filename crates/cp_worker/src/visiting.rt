@@ -48,7 +48,7 @@ pub fn try_at<G: Gate>(
     requires high { x ≤ yard.now.base.formula.variables }
     requires idle { IsIdle seat.old.view }
     ensures table { seat.new.table ≡ seat.old.table }
-    ensures visit { (noted : List Note) × (posted : List (ℕ × Post)) × GoesOn seat.old.view seat.new.view noted posted × IfOk result (IsVisit seat.old.view.base seat.old.view.number x round opts.now.hood noted posted) }
+    ensures visit { (noted : List Note) × (posted : List (ℕ × Post)) × GoesOn seat.old.view seat.new.view noted posted × IfOk result (IsVisit seat.old.view.base seat.old.view.number x round opts.now.hood (length seat.old.view.own.posts) noted posted) }
     ensures idle { IsIdle seat.new.view }
 {
     match try_again(alloc, yard, seat, x, opts.hood) {
@@ -82,7 +82,7 @@ fn try_again(
     requires high { x ≤ yard.now.base.formula.variables }
     requires idle { IsIdle seat.old.view }
     ensures table { seat.new.table ≡ seat.old.table }
-    ensures tries { (held : List (List Note)) × (last : List Note) × GoesOn seat.old.view seat.new.view (notes_of held ++ last) [] × All (IsHeld x limit) held × IsTry x limit last result × IsEnough (length held) result }
+    ensures tries { (held : List (List Note)) × (last : List Note) × GoesOn seat.old.view seat.new.view (notes_of held ++ last) [] × All (IsHeld x limit (length seat.old.view.own.posts)) held × IsTry x limit (length seat.old.view.own.posts) last result × IsEnough (length held) result }
     ensures holds { IfOk result (λ h. HoldsJust seat.new.view h.cells) }
     ensures idle { OnErr result (IsIdle seat.new.view) }
 {
@@ -192,7 +192,7 @@ fn commit_listed(
     requires holds { HoldsJust seat.old.view hood.old.cells }
     requires legal { IsLegalAt yard.now.base.rules hood.old (entry_of entry) }
     ensures table { seat.new.table ≡ seat.old.table }
-    ensures post { (noted : List Note) × (posted : List (ℕ × Post)) × GoesOn seat.old.view seat.new.view noted posted × OnOk result (HasPosted seat.old.view.base seat.old.view.number round (entry_of entry) hood.old hood.new commits.old.items commits.new.items noted posted) × IfErr result (λ answer. (posted ≡ []) × IsRefusal seat.old.view.base (entry_of entry) noted answer) }
+    ensures post { (noted : List Note) × (posted : List (ℕ × Post)) × GoesOn seat.old.view seat.new.view noted posted × OnOk result (HasPosted seat.old.view.base seat.old.view.number round (entry_of entry) hood.old hood.new commits.old.items commits.new.items noted posted) × IfErr result (λ answer. (posted ≡ []) × IsRefusal seat.old.view.base hood.old.centre (centre_clauses hood.old) (entry_of entry) noted answer) }
     ensures same { OnErr result (commits.new.items ≡ commits.old.items) }
     ensures holds { HoldsJust seat.new.view hood.new.cells }
 {

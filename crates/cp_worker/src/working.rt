@@ -1,5 +1,5 @@
 //! A shift: draws candidates and visits each, until none is left or the run has stopped.
-ghost use Rattle.std.specs.Prelude.{◌≡◌, ◌≤◌, ◌<◌, ◌^◌, ◌++◌, ℕ, List, length, Some, None, IfOk, OnOk};
+ghost use Rattle.std.specs.Prelude.{◌≡◌, ◌≤◌, ◌<◌, ◌^◌, ◌++◌, ℕ, List, length, Some, None, IfOk, OnOk, AllPairs};
 ghost use Rattle.cp_logic.specs.Journals.{Post};
 ghost use Rattle.cp_claim.specs.Views.{DrawsOnly};
 ghost use Rattle.cp_yard.specs.Views.{Note};
@@ -22,8 +22,8 @@ use std::alloc::{AllocError, Global};
 /// Draws candidates for the round and visits each, until none is left or a visit finds that the run has stopped.
 ///
 /// The claims are of as many numbers as there are variables. Each number stands for one variable, and numbers that come one after the
-/// other for variables that are apart, by the options' number of workers. Afterwards the seat holds nothing, also after the error,
-/// which comes only for want of memory; the posts made until then stand.
+/// other for variables that are apart, by the options' number of workers. The numbers that a claim seat draws rise. Afterwards the seat
+/// holds nothing, also after the error, which comes only for want of memory; the posts made until then stand.
 pub fn shift<G: Gate>(
     alloc: Global,
     yard: &Yard,
@@ -46,7 +46,8 @@ pub fn shift<G: Gate>(
     ensures idle { IsIdle seat.new.view }
     ensures seat { Continues seat.old.view seat.new.view }
     ensures claim { DrawsOnly claim.old.view claim.new.view }
-    ensures shift { IfOk result (λ s. (noted : List Note) × (posted : List (ℕ × Post)) × (drawn : List ℕ) × GoesOn seat.old.view seat.new.view noted posted × (claim.new.view.drawn ≡ claim.old.view.drawn ++ drawn) × IsShift seat.old.view.base seat.old.view.number round opts.now.workers opts.now.hood noted posted drawn s) }
+    ensures rising { AllPairs (λ a b. a < b) claim.old.view.drawn → AllPairs (λ a b. a < b) claim.new.view.drawn }
+    ensures shift { IfOk result (λ s. (noted : List Note) × (posted : List (ℕ × Post)) × (drawn : List ℕ) × GoesOn seat.old.view seat.new.view noted posted × (claim.new.view.drawn ≡ claim.old.view.drawn ++ drawn) × IsShift seat.old.view.base seat.old.view.number round opts.now.workers opts.now.hood (length seat.old.view.own.posts) noted posted drawn s) }
     ensures ended { IfOk result (λ s. s.stopped ≡ None → (word : ℕ) × (claim.new.view.mine.end ≡ Some word)) }
 {
     let mut shift = WorkerShift::new(alloc, seat.number(), round);
@@ -79,7 +80,7 @@ fn visit<G: Gate>(
     requires idle { IsIdle seat.old.view }
     ensures table { seat.new.table ≡ seat.old.table }
     ensures idle { IsIdle seat.new.view }
-    ensures visit { (noted : List Note) × (posted : List (ℕ × Post)) × GoesOn seat.old.view seat.new.view noted posted × OnOk result ((answer : AtAnswer) × IsVisit seat.old.view.base seat.old.view.number candidate shift.old.round opts.now.hood noted posted answer × IsListing candidate answer shift.old shift.new) }
+    ensures visit { (noted : List Note) × (posted : List (ℕ × Post)) × GoesOn seat.old.view seat.new.view noted posted × OnOk result ((answer : AtAnswer) × IsVisit seat.old.view.base seat.old.view.number candidate shift.old.round opts.now.hood (length seat.old.view.own.posts) noted posted answer × IsListing candidate answer shift.old shift.new) }
     ensures few { OnOk result (length shift.new.taken.items < 2 ^ 64) }
 {
     gate.at(seat.number(), GateEvent::Taken { var: candidate });

@@ -43,9 +43,9 @@ seats_put P vs me w mine others j d e = ⊎_elim (λ (t : (j ≡ me) × (w ≡ d
 
 pub note_grows : (f : Base) (h h' : List Post) (notes notes' : ℕ → List Note) → IsPrefix h h' → ((k : ℕ) (n : Note) → Contains (notes k) n → Contains (notes' k) n)
     → (k : ℕ) (n : Note) → IsTrueNote f h notes k n → IsTrueNote f h' notes' k n
-note_grows f h h' notes notes' pre more k (Got x l) ok = (ok.0, (ok.1.0 ++ pre.0, sym (append_assoc ok.0 ok.1.0 pre.0) ∙ (ap (λ z. z ++ pre.0) ok.1.1 ∙ pre.1)), ok.2)
+note_grows f h h' notes notes' pre more k (Got x l n) ok = (ok.0, (ok.1.0 ++ pre.0, sym (append_assoc ok.0 ok.1.0 pre.0) ∙ (ap (λ z. z ++ pre.0) ok.1.1 ∙ pre.1)), ok.2, ok.3)
 note_grows f h h' notes notes' pre more k (GotTurn j) ok = (ok.0 ++ pre.0, sym (append_assoc j ok.0 pre.0) ∙ (ap (λ z. z ++ pre.0) ok.1 ∙ pre.1))
-note_grows f h h' notes notes' pre more k (Met x by) ok = (ok.0, (ok.1.0, more by (Got x ok.1.0) ok.1.1))
+note_grows f h h' notes notes' pre more k (Met x by) ok = (ok.0, (ok.1.0, ok.1.1, more by (Got x ok.1.0 ok.1.1) ok.1.2))
 note_grows f h h' notes notes' pre more k (MetTurn by) ok = (ok.0, (ok.1.0, more by (GotTurn ok.1.0) ok.1.1))
 
 module _ (f : Base) where

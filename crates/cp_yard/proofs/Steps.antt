@@ -166,13 +166,14 @@ module _ (f : Base) where
   lock-allowed slots id mark me x lives hand number free pos near s r deep at _ =
       let v : SeatView = me.0 in let ok = r.seats id v at lives in let n : ℕ = get_or s.words x 0 in let mark_is : mark ≡ id + 1 = number ∙ ap (λ (z : ℕ). z + 1) ok.number in dite (ℕ_discrete n 0)
       (λ hit. let free_row : (c : CellView) × (get_elem? s.homes x ≡ some (some (OfVariable c))) × IsCellOf x (clauses_at f r.posts x) c = ⊎_elim (λ t. t.1) (λ t. let a = t.3 in absurd (omega arith)) (r.locks x pos (omega arith)) in
-      let cell : CellView = free_row.0 in let l : List Named = cell.clauses in let is_occ : l ≡ clauses_at f r.posts x = free_row.2.1 in let note : Note = Got x l in let ns : List Note = v.own.notes ++ note ∷ [] in let notes' : ℕ → List Note = put r.notes id ns in let w : SeatView = reached_lock x l v in let wide = r.wide in
+      let cell : CellView = free_row.0 in let l : List Named = cell.clauses in let is_occ : l ≡ clauses_at f r.posts x = free_row.2.1 in let made : ℕ = length v.own.posts in let note : Note = Got x l made in let ns : List Note = v.own.notes ++ note ∷ [] in let notes' : ℕ → List Note = put r.notes id ns in let w : SeatView = reached_lock x l v in let wide = r.wide in
       let homes' : Homes = set s.homes x none in let new : ℕ = mark in
       let word : (y : ℕ) → y ≢ x → get_or (set s.words x new) y 0 ≡ get_or s.words y 0 = λ y ne. get_or-set_other s.words x y new 0 ne in
       let home : (y : ℕ) → y ≢ x → get_elem? homes' y ≡ get_elem? s.homes y = λ y ne. set_else s.homes x y none ne in
       let word_is : get_or (set s.words x new) x 0 ≡ id + 1 = get_or-set_same s.words x new 0 (omega arith) ∙ mark_is in
       let other : (y j : ℕ) → get_or s.words y 0 ≡ j + 1 → y ≢ x = λ y j p. apart s.words y x (j + 1) 0 p hit (λ q. omega arith) in
-      let true_note : IsTrueNote f r.posts notes' id note = (r.posts, ([], append-nil r.posts), is_occ) in (
+      let mine : v.own.posts ≡ posts_of r.posts id = (ok.shares v.own (mine_among v lives)).0 ∙ ap (posts_of r.posts) ok.own in
+      let true_note : IsTrueNote f r.posts notes' id note = (r.posts, ([], append-nil r.posts), is_occ, ap length (sym mine)) in (
         w,
         takes x (OfVariable cell),
         free_row.1,
@@ -191,10 +192,10 @@ module _ (f : Base) where
                     ap (λ (z : ℕ). get_or (set s.words x new) z 0) q ∙ word_is,
                     k_is ∙ (is_occ ∙ ap (clauses_at f r.posts) (sym q)),
                     (λ ne. absurd (ne (ap (λ (z : ℕ). z + 1) (sym q)))),
-                    (l, subst (λ (z : ℕ). Contains ns (Got z l)) (sym q) (in_last note v.own.notes)),
+                    (l, made, subst (λ (z : ℕ). Contains ns (Got z l made)) (sym q) (in_last note v.own.notes)),
                   ))
                   (λ ne. let o = ok.held y k (sym (held_of-other x y l v.held ne) ∙ e) in
-                  (o.0, word y ne ∙ o.1, o.2, (λ _. home y ne ∙ o.3 (λ q. omega arith)), (o.4.0, in_left (Got y o.4.0) v.own.notes (note ∷ []) o.4.1)));
+                  (o.0, word y ne ∙ o.1, o.2, (λ _. home y ne ∙ o.3 (λ q. omega arith)), (o.4.0, o.4.1, in_left (Got y o.4.0 o.4.1) v.own.notes (note ∷ []) o.4.2)));
             }
             (noted_times note v) (all_noted s r id v at lives note true_note) (λ k ne. (put_else r.notes id ns k ne, refl))
             (λ j y ne p. let far = other y j p in (word y far ∙ p, home y far, refl)) (λ _ _ _. refl)
@@ -211,7 +212,7 @@ module _ (f : Base) where
       let note : Note = Met x (n - 1) in let ns : List Note = v.own.notes ++ note ∷ [] in let notes' : ℕ → List Note = put r.notes id ns in let w : SeatView = noted note v in
       let same : (y : ℕ) → get_or (set s.words x n) y 0 ≡ get_or s.words y 0 = λ y. ap (λ (ws : List ℕ). get_or ws y 0) (set-get_or s.words x 0) in
       let theirs : z.own.notes ≡ notes' (n - 1) = (zs.shares z.own (mine_among z h.lives)).1 ∙ (ap r.notes (zs.own ∙ by_is) ∙ sym (put_else r.notes id ns (n - 1) (λ e. away (by_is ∙ e)))) in
-      let true_note : IsTrueNote f r.posts notes' id note = ((λ e. away (by_is ∙ e)), (zn.0, subst (λ zs. Contains zs (Got x zn.0)) theirs zn.1)) in (
+      let true_note : IsTrueNote f r.posts notes' id note = ((λ e. away (by_is ∙ e)), (zn.0, zn.1, subst (λ zs. Contains zs (Got x zn.0 zn.1)) theirs zn.2)) in (
         w,
         stays,
         tt,
@@ -224,7 +225,7 @@ module _ (f : Base) where
               made = ok.made;
               shares = noted_shares s r id v at lives note;
               turn = λ j e. let o = ok.turn j e in (same 0 ∙ o.0, o.1, o.2, (o.3.0, in_left (GotTurn o.3.0) v.own.notes (note ∷ []) o.3.1));
-              held = λ y k e. let o = ok.held y k e in (o.0, same y ∙ o.1, o.2, o.3, (o.4.0, in_left (Got y o.4.0) v.own.notes (note ∷ []) o.4.1));
+              held = λ y k e. let o = ok.held y k e in (o.0, same y ∙ o.1, o.2, o.3, (o.4.0, o.4.1, in_left (Got y o.4.0 o.4.1) v.own.notes (note ∷ []) o.4.2));
             }
             (noted_times note v) (all_noted s r id v at lives note true_note) (λ k ne. (put_else r.notes id ns k ne, refl))
             (λ j y ne p. (same y ∙ p, refl, refl)) (λ _ _ _. refl)

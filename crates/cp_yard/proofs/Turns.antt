@@ -66,7 +66,7 @@ module _ (f : Base) where
               shares = noted_shares f s r id v at lives note;
               turn = λ j e. (word_is, sym (same_Some h j e), (λ ne. absurd (ne refl)), (h, in_last note v.own.notes));
               held = λ y k e. let o = ok.held y k e in let a = o.0 in let ne : y ≢ 0 = (λ q. omega arith) in
-                  (o.0, word y ne ∙ o.1, o.2, (λ _. home y ne ∙ o.3 (λ q. omega arith)), (o.4.0, in_left (Got y o.4.0) v.own.notes (note ∷ []) o.4.1));
+                  (o.0, word y ne ∙ o.1, o.2, (λ _. home y ne ∙ o.3 (λ q. omega arith)), (o.4.0, o.4.1, in_left (Got y o.4.0 o.4.1) v.own.notes (note ∷ []) o.4.2));
             }
             (noted_times f note v) (all_noted f s r id v at lives note true_note) (λ k ne. (put_else r.notes id ns k ne, refl))
             (λ j y ne p. let far = other y j p in (word y far ∙ p, home y far, refl)) (λ _ _ _. refl)
@@ -93,7 +93,7 @@ module _ (f : Base) where
               made = ok.made;
               shares = noted_shares f s r id v at lives note;
               turn = λ j e. let o = ok.turn j e in (same 0 ∙ o.0, o.1, o.2, (o.3.0, in_left (GotTurn o.3.0) v.own.notes (note ∷ []) o.3.1));
-              held = λ y k e. let o = ok.held y k e in (o.0, same y ∙ o.1, o.2, o.3, (o.4.0, in_left (Got y o.4.0) v.own.notes (note ∷ []) o.4.1));
+              held = λ y k e. let o = ok.held y k e in (o.0, same y ∙ o.1, o.2, o.3, (o.4.0, o.4.1, in_left (Got y o.4.0 o.4.1) v.own.notes (note ∷ []) o.4.2));
             }
             (noted_times f note v) (all_noted f s r id v at lives note true_note) (λ k ne. (put_else r.notes id ns k ne, refl))
             (λ j y ne p. (same y ∙ p, refl, refl)) (λ _ _ _. refl)

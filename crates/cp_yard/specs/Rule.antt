@@ -38,12 +38,12 @@ IsCellOf x cs c = (c.variable ≡ x) × (c.clauses ≡ cs)
 abbrev pub IsBookOf : Base → List Post → BookView → Type 0
 IsBookOf f h b = (b.first ≡ f.formula) × (b.rules ≡ f.rules) × (b.posts ≡ h)
 
--- a note of the number w is true after the posts h: what it got were the clauses, or the journal, after the first posts of h, and whom it met
--- is another number, which got that lock, or the turn
+-- a note of the number w is true after the posts h: what it got were the clauses, or the journal, after the first posts of h, of which so many
+-- were its own, and whom it met is another number, which got that lock, or the turn
 abbrev pub IsTrueNote : Base → List Post → (ℕ → List Note) → ℕ → Note → Type 0
-IsTrueNote f h notes w (Got x cs) = (j : List Post) × IsPrefix j h × (cs ≡ clauses_at f j x)
+IsTrueNote f h notes w (Got x cs n) = (j : List Post) × IsPrefix j h × (cs ≡ clauses_at f j x) × (length (posts_of j w) ≡ n)
 IsTrueNote f h notes w (GotTurn j) = IsPrefix j h
-IsTrueNote f h notes w (Met x by) = (by ≢ w) × ((cs : List Named) × Contains (notes by) (Got x cs))
+IsTrueNote f h notes w (Met x by) = (by ≢ w) × ((cs : List Named) × (n : ℕ) × Contains (notes by) (Got x cs n))
 IsTrueNote f h notes w (MetTurn by) = (by ≢ w) × ((j : List Post) × Contains (notes by) (GotTurn j))
 
 -- the share has the posts and the notes of its number
@@ -70,7 +70,7 @@ pub record Knows (f : Base) (h : List Post) (notes : ℕ → List Note) (words :
       → (slice_index words 0 ≡ i + 1) × (j ≡ h) × (v.hand ≢ 1 → IsBare homes 0) × ((k : List Post) × Contains v.own.notes (GotTurn k))
   -- it holds a variable only where the variable's word names it, and with its clauses after the whole journal
   pub held : (x : ℕ) (cs : List Named) → held_of x v.held ≡ Some cs
-      → (0 < x) × (slice_index words x ≡ i + 1) × (cs ≡ clauses_at f h x) × (v.hand ≢ x + 1 → IsBare homes x) × ((ds : List Named) × Contains v.own.notes (Got x ds))
+      → (0 < x) × (slice_index words x ≡ i + 1) × (cs ≡ clauses_at f h x) × (v.hand ≢ x + 1 → IsBare homes x) × ((ds : List Named) × (n : ℕ) × Contains v.own.notes (Got x ds n))
 
 -- seat i lives and has the turn
 pub record HasTurn (h : List Post) (views : List SeatView) (i : ℕ) (v : SeatView) : Type 0 where

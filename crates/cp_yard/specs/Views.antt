@@ -1,5 +1,5 @@
 -- What a seat knows: what it holds, the turn, and, for its own number and for that of each seat that it took in, the posts and what each try met.
-use Rattle.std.specs.Prelude.{ℕ, ◌+◌, ◌==◌, ltb, Bool, true, false, Option, Some, None, List, [], ◌∷◌, ◌++◌, map, if◌then◌else◌}
+use Rattle.std.specs.Prelude.{ℕ, ◌+◌, ◌==◌, ltb, Bool, true, false, Option, Some, None, List, [], ◌∷◌, ◌++◌, map, length, if◌then◌else◌}
 use Rattle.cp_logic.specs.declared.named.Named.{Named}
 use Rattle.cp_logic.specs.declared.settings.Rules.{Rules}
 use Rattle.cp_logic.specs.Formulas.{Formula}
@@ -13,9 +13,10 @@ pub record Base : Type 0 where
   pub formula : Formula
   pub rules : Rules
 
--- what one try met: the lock of a variable, with the clauses of its cell; the turn, with its journal; or which seat has the lock or the turn
+-- what one try met: the lock of a variable, with the clauses of its cell, and how many posts its seat had made by then; the turn, with its
+-- journal; or which seat has the lock or the turn
 pub data Note : Type 0 where
-  Got : (variable : ℕ) (clauses : List Named) → Note
+  Got : (variable : ℕ) (clauses : List Named) (posted : ℕ) → Note
   GotTurn : (posts : List Post) → Note
   Met : (variable by : ℕ) → Note
   MetTurn : (by : ℕ) → Note
@@ -139,13 +140,13 @@ noted n v = record v { own = record v.own { notes = v.own.notes ++ n ∷ [] } }
 
 -- the seat after it got the lock, and after it got the turn; with the slot in hand, and then with it back in its place
 abbrev pub reached_lock : ℕ → List Named → SeatView → SeatView
-reached_lock x cs v = record (noted (Got x cs) v) { held = lock x cs ∷ v.held; hand = x + 1 }
+reached_lock x cs v = record (noted (Got x cs (length v.own.posts)) v) { held = lock x cs ∷ v.held; hand = x + 1 }
 
 abbrev pub reached_turn : List Post → SeatView → SeatView
 reached_turn h v = record (noted (GotTurn h) v) { turn = Some h; hand = 1 }
 
 abbrev pub with_lock : ℕ → List Named → SeatView → SeatView
-with_lock x cs v = record (noted (Got x cs) v) { held = lock x cs ∷ v.held; hand = 0 }
+with_lock x cs v = record (noted (Got x cs (length v.own.posts)) v) { held = lock x cs ∷ v.held; hand = 0 }
 
 abbrev pub with_turn : List Post → SeatView → SeatView
 with_turn h v = record (noted (GotTurn h) v) { turn = Some h; hand = 0 }

@@ -57,7 +57,7 @@ returns-in-Err-clause-tries c = let cell : CellView = c.args.centre in let vars 
     let low : List ℕ = take at vars in let high : List ℕ = above at vars in let one : SeatView = c.lock_row-below.new.seat.view in let cells : List CellView = c.lock_row-below.new.cells.items in let pushed : List CellView = c.push_reserved.new.self.items in
     let cut = row-cut low seat one c.args.room.items cells c.in-Err.answer c.in-Err.ensures.answer in
     let t = tries.low-cut_comes cell low high vars seat near one c.args.room.items cells pushed c.requires.room.0 c.push_reserved.ensures.items cut.0 cut.1 cut.3 c.give_back.new.seat.view c.give_back.ensures.same in
-    (t.0, t.1, λ limit l. subst (λ (a : HoodAnswer). IsTry cell.variable limit (Got cell.variable cell.clauses ∷ t.0) (Err a)) (sym cut.2) (t.2 limit l))
+    (t.0, t.1, λ limit l. subst (λ (a : HoodAnswer). IsTry cell.variable limit (length seat.own.posts) (Got cell.variable cell.clauses (length seat.own.posts) ∷ t.0) (Err a)) (sym cut.2) (t.2 limit l))
 
 pub lock_row-requires-clause-ascending : goal.lock_row-requires-clause-ascending
 lock_row-requires-clause-ascending c = let cell : CellView = c.args.centre in let vars : List ℕ = c.args.vars.now in let at : ℕ = c.position-at.result in let seat : SeatView = c.args.seat.now.view in
@@ -101,7 +101,7 @@ returns-in-Err-lock_row-clause-tries c = let cell : CellView = c.args.centre in 
     let two : SeatView = c.lock_row.new.seat.view in let after : List CellView = c.lock_row.new.cells.items in
     let cut = row-cut high one two pushed after c.in-Err-lock_row.answer c.in-Err-lock_row.ensures.answer in
     let t = tries.high-cut_comes cell low high vars seat near one c.args.room.items cells pushed c.requires.room.0 c.push_reserved.ensures.items c.in_default.ensures.ok two after cut.0 cut.1 cut.3 c.give_back-in-Err-lock_row.new.seat.view c.give_back-in-Err-lock_row.ensures.same in
-    (t.0, t.1, λ limit l. subst (λ (a : HoodAnswer). IsTry cell.variable limit (Got cell.variable cell.clauses ∷ t.0) (Err a)) (sym cut.2) (t.2 limit l))
+    (t.0, t.1, λ limit l. subst (λ (a : HoodAnswer). IsTry cell.variable limit (length seat.own.posts) (Got cell.variable cell.clauses (length seat.own.posts) ∷ t.0) (Err a)) (sym cut.2) (t.2 limit l))
 
 pub invariant_of-result : goal.invariant_of-result
 invariant_of-result c = let cell : CellView = c.args.centre in let vars : List ℕ = c.args.vars.now in let at : ℕ = c.position-at.result in let seat : SeatView = c.args.seat.now.view in

@@ -8,7 +8,7 @@ use Rattle.cp_occ.proofs.Posted.{places_of-numbered, HasRoom-numbered}
 use Rattle.cp_yard.specs.Views.{Base}
 use Rattle.cp_hood.specs.Hoods.{AreOccurrences}
 use Rattle.cp_hood.proofs.Following.{AreOccurrences-held}
-use Rattle.cp_hood.proofs.Outcomes.{on-ok, held-commit, held-holds, ended-holds, refused-commit, lacking-commit, posted-holds, posted-commit, taken}
+use Rattle.cp_hood.proofs.Outcomes.{on-ok, is-current, held-commit, held-holds, ended-holds, refused-commit, lacking-commit, posted-holds, posted-commit, taken}
 use Rattle.cp_hood.proofs.posting.commit.Goals as goal
 
 pub returns-in-Err-clause-commit : goal.returns-in-Err-clause-commit
@@ -25,7 +25,8 @@ pub returns-in-Some-clause-commit : goal.returns-in-Some-clause-commit
 returns-in-Some-clause-commit c =
     let g = c.in-Ok.ensures.got in
     refused-commit c.args.seat.now.view c.take_turn.new.seat.view c.in-Ok.book c.args.tries g.0 g.1 g.2 c.in-Ok.ensures.base
-    c.end_turn.new.seat.view c.end_turn.ensures.seat (entry_of c.args.entry) c.args.hood.now c.args.round c.in-Some.answer c.in-Some.ensures.some
+    c.end_turn.new.seat.view c.end_turn.ensures.seat (entry_of c.args.entry) c.args.hood.now c.args.round
+    (is-current c.args.seat.now.view c.in-Ok.book c.args.hood.now c.is_hood.ensures c.requires.holds c.in-Ok.ensures.held) c.in-Some.answer c.in-Some.ensures.some
 
 pub returns-in-Some-clause-holds : goal.returns-in-Some-clause-holds
 returns-in-Some-clause-holds c =
@@ -38,6 +39,7 @@ returns-then-is_err-clause-commit c =
     let g = c.in-Ok.ensures.got in
     lacking-commit c.args.seat.now.view c.take_turn.new.seat.view c.in-Ok.book c.args.tries g.0 g.1 g.2 c.in-Ok.ensures.base
     c.end_turn-then-is_err.new.seat.view c.end_turn-then-is_err.ensures.seat (entry_of c.args.entry) c.args.hood.now c.args.round
+    (is-current c.args.seat.now.view c.in-Ok.book c.args.hood.now c.is_hood.ensures c.requires.holds c.in-Ok.ensures.held)
 
 pub returns-then-is_err-clause-holds : goal.returns-then-is_err-clause-holds
 returns-then-is_err-clause-holds c =
@@ -80,7 +82,7 @@ returns-clause-commit c =
     posted-commit c.args.seat.now.view c.take_turn.new.seat.view b c.args.tries g.0 g.1 g.2 c.in-Ok.ensures.base
     c.post_under_turn.new.seat.view c.prepare.new.self e (entry_of c.numbered-entry.result) c.args.hood.now c.post_under_turn.new.hood c.args.round
     (ap (λ (z : BookView). z.posts) c.prepare.ensures.same) (c.numbered-entry.ensures ∙ ap (λ n. numbered n e) c.next.ensures) c.post_under_turn.ensures.seat c.post_under_turn.ensures.hood
-    c.post_under_turn.result c.post_under_turn.ensures.position
+    (is-current c.args.seat.now.view c.in-Ok.book c.args.hood.now c.is_hood.ensures c.requires.holds c.in-Ok.ensures.held) c.post_under_turn.result c.post_under_turn.ensures.position
 
 pub returns-clause-holds : goal.returns-clause-holds
 returns-clause-holds c =

@@ -11,7 +11,7 @@ use Rattle.cp_find.specs.Past.{IsPast}
 use Rattle.cp_hood.specs.Hoods.{centre_clauses}
 use Rattle.cp_hood.specs.Commits.{left_by}
 use Rattle.cp_worker.specs.Visits.{AreCommits, commits_of}
-use Rattle.cp_worker.specs.Posting.{IsCauseOf}
+use Rattle.cp_worker.specs.Posting.{IsRefusal, IsCauseOf}
 use Rattle.cp_worker.proofs.Centres.{found-at, legal-found, centre-after, centre-smaller}
 use Rattle.cp_worker.proofs.Commits.{begins, goes_on, settles, refuses, refused-goes}
 use Rattle.cp_worker.proofs.visiting.commit_all.Goals as goal
@@ -85,13 +85,14 @@ returns-in-Err-clause-visit c =
     let found : first_in (centre_clauses c.commits.hood) v.base.rules 1 x ≡ Some e = ap (λ z. first_in (centre_clauses c.commits.hood) v.base.rules 1 z) (sym i.centre)
     ∙ found-at c.commits.hood c.centre.result.now c.args.rules.now v.base.rules c.in_ok-entry.field-0 c.centre.ensures.variable c.centre.ensures.clauses
     (c.requires.rules ∙ sym (ap (λ (f : Base). f.rules) c.requires.base)) c.in_ok-entry.ensures.found
-    ∙ ap (option_map entry_of) c.in-Some.is in (
+    ∙ ap (option_map entry_of) c.in-Some.is in
+    let refused = subst (λ z. IsRefusal c.commits.seat.view.base z (centre_clauses c.commits.hood) e k.0 c.in-Err.answer) i.centre k.4.1 in (
       i.going.noted ++ k.0,
       i.going.posted,
       refused-goes v c.commits.seat.view c.commit_listed.new.seat.view x c.args.round cs (centre_clauses c.commits.hood) c.commits.commits.items k.0 k.1 i.going k.2 k.4.0,
       IfOk-weaker c.refused.result (λ a. (commits_of a ≡ c.commit_listed.new.commits.items) × IsCauseOf c.in-Err.answer a)
           (AreCommits v.base v.number x c.args.round cs (i.going.noted ++ k.0) i.going.posted)
-          (λ a h. refuses v c.commits.seat.view x c.args.round cs (centre_clauses c.commits.hood) c.commits.commits.items k.0 i.going e c.in-Err.answer a found k.4.1 (h.0 ∙ c.in-Err.ensures.same) h.1)
+          (λ a h. refuses v c.commits.seat.view x c.args.round cs (centre_clauses c.commits.hood) c.commits.commits.items k.0 i.going e c.in-Err.answer a found refused (h.0 ∙ c.in-Err.ensures.same) h.1)
           c.refused.ensures,
     )
 

@@ -4,6 +4,7 @@ use Rattle.cp_hood.specs.Commits.{post_after}
 use Rattle.cp_hood.proofs.Following.{legal-same}
 use Rattle.cp_hood.proofs.Turns.{HoldsJust-same}
 use Rattle.cp_worker.proofs.Centres.{after-prepared}
+use Rattle.cp_worker.proofs.Commits.{current-same}
 use Rattle.cp_worker.proofs.visiting.commit_listed.Goals as goal
 
 pub returns-in_default-clause-holds : goal.returns-in_default-clause-holds
@@ -24,10 +25,11 @@ returns-clause-post c =
       record {
         before = k.3.0;
         turn = k.3.1;
-        post = k.3.3;
-        hood = after-prepared (post_after v.base k.3.0 v.number c.args.round (entry_of c.args.entry)).entry c.args.hood.now c.prepare.new.self c.commit.new.hood c.prepare.ensures.same k.3.4;
+        current = current-same v.base k.3.0 c.args.hood.now c.prepare.new.self c.prepare.ensures.same k.3.2;
+        post = k.3.4;
+        hood = after-prepared (post_after v.base k.3.0 v.number c.args.round (entry_of c.args.entry)).entry c.args.hood.now c.prepare.new.self c.commit.new.hood c.prepare.ensures.same k.3.5;
         position = c.push_reserved.ensures.items ∙ ap (λ (ns : List ℕ). ns ++ c.in_ok-receipt.receipt.position ∷ []) c.reserve.ensures.items
-            ∙ ap (λ n. c.args.commits.now.items ++ n ∷ []) k.3.2;
+            ∙ ap (λ n. c.args.commits.now.items ++ n ∷ []) k.3.3;
       },
       tt,
     )

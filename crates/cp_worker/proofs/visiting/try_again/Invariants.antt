@@ -9,5 +9,5 @@ abbrev pub invariant-loop-k : goal.invariant-loop-k
 invariant-loop-k l = record {
   table : l.seat.table ≡ l.fn.seat.table;
   idle : IsIdle l.seat.view;
-  going : (held : List (List Note)) × (length held + 1 ≡ l.k) × All (IsHeld l.x l.limit) held × GoesOn l.fn.seat.view l.seat.view (notes_of held) [];
+  going : (held : List (List Note)) × (length held + 1 ≡ l.k) × All (IsHeld l.x l.limit (length l.fn.seat.view.own.posts)) held × GoesOn l.fn.seat.view l.seat.view (notes_of held) [];
 }

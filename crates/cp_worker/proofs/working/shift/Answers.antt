@@ -2,6 +2,7 @@ use Rattle.std.proofs.Common.{◌≡◌, ◌+◌, ◌++◌, ◌∷◌, [], List,
 use Rattle.cp_claim.specs.Views.{View}
 use Rattle.cp_yard.specs.Views.{Base}
 use Rattle.cp_worker.specs.Candidates.{candidate_of}
+use Rattle.cp_worker.proofs.Rising.{rises}
 use Rattle.cp_worker.proofs.Shifting.{IsGoing, starts, starts-shift, more_going, draws-then, none_from}
 use Rattle.cp_worker.proofs.working.shift.Goals as goal
 
@@ -13,8 +14,9 @@ draws-init g c =
       counter = refl;
       idle = c.requires.idle;
       draws = refl;
+      rising = λ r. r;
       going = starts v c.args.claim.now.view.drawn c.args.round c.args.opts.now.workers c.args.opts.now.hood s
-          (starts-shift v.base v.number c.args.round c.args.opts.now.workers c.args.opts.now.hood s (m.who.0 ∙ c.number.ensures) m.who.1 m.empty.0 m.empty.1 m.empty.2 m.empty.3 m.empty.4 m.stopped);
+          (starts-shift v.base v.number c.args.round c.args.opts.now.workers c.args.opts.now.hood (length v.own.posts) s (m.who.0 ∙ c.number.ensures) m.who.1 m.empty.0 m.empty.1 m.empty.2 m.empty.3 m.empty.4 m.stopped);
       unstopped = m.stopped;
     }
 
@@ -29,6 +31,7 @@ draws-preserved g c =
       counter = c.next.ensures.counter ∙ i.counter;
       idle = c.visit.ensures.idle;
       draws = draws-then c.args.claim.now.view c.draws.claim.view c.next.new.seat.view i.draws c.next.ensures.same;
+      rising = λ r. rises c.draws.claim.view c.next.new.seat.view c.in-Some.number d.2 c.in-Some.ensures.rising (i.rising r);
       going = subst (λ (now : List ℕ). IsGoing v c.visit.new.seat.view c.args.claim.now.view.drawn now c.args.round c.args.opts.now.workers c.args.opts.now.hood c.visit.new.shift) (sym drawn)
           (more_going v c.draws.seat.view c.visit.new.seat.view c.args.claim.now.view.drawn c.draws.claim.view.drawn c.args.round c.args.opts.now.workers c.args.opts.now.hood c.in-Some.number c.candidate_at-candidate.result k.3.0 c.draws.shift c.visit.new.shift k.0 k.1
           is i.unstopped i.going k.2 k.3.1 k.3.2);
@@ -41,6 +44,12 @@ draws-smaller g c =
     let more : length c.visit.new.shift.taken.items ≡ length c.draws.shift.taken.items + 1 =
     ap length k.3.2.taken ∙ length-append c.draws.shift.taken.items (c.candidate_at-candidate.result ∷ []) in
     omega (arith, more, c.in_ok-visit.ensures.few)
+
+pub returns-in_err-visit-clause-rising : goal.returns-in_err-visit-clause-rising
+returns-in_err-visit-clause-rising g c up = rises c.draws.claim.view c.next.new.seat.view c.in-Some.number c.in-Some.ensures.number.2 c.in-Some.ensures.rising (c.draws.invariant.rising up)
+
+pub returns-then-is_some-clause-rising : goal.returns-then-is_some-clause-rising
+returns-then-is_some-clause-rising g c up = rises c.draws.claim.view c.next.new.seat.view c.in-Some.number c.in-Some.ensures.number.2 c.in-Some.ensures.rising (c.draws.invariant.rising up)
 
 pub returns-then-is_some-clause-shift : goal.returns-then-is_some-clause-shift
 returns-then-is_some-clause-shift g c =

@@ -10,6 +10,7 @@ returns g c =
       idle = e.idle;
       seat = e.seat;
       claim = e.claim;
+      rising = e.rising;
       work = worked t.opts.workers t.opts.hood t.round m.seat.view seat.view m.claim.view claim.view c.shift-done.result c.ok.result c.ok.ensures.value e.shift;
       taken = taken t.opts.workers t.opts.hood t.round m.seat.view seat.view m.claim.view claim.view c.shift-done.result c.ok.result c.ok.ensures.value e.shift e.ended;
     }
