@@ -28,6 +28,8 @@ PROGRAM, LOG, TREES = f"{OUT}/copro", f"{OUT}/build.log", f"{OUT}/build"
 PARTS = ("src", "specs", "proofs")
 # What one job of a check takes, in bytes.
 MEMORY = 1_500_000_000
+# A crate of this rank or a lower one is on the longest chain or close to it, and gets this many jobs at once, whatever else runs.
+URGENT, JOBS = 7, 3
 # The lines of a crate that failed that are shown.
 SHOWN = 15
 CHECKED = re.compile(rb"so far: (\d+) of (\d+) functions checked")
@@ -214,11 +216,11 @@ def processors():
     return len(os.sched_getaffinity(0))
 
 
-def places():
-    """How many jobs there may be at once. A job waits at times, so there are more of them than processors, as far as memory allows."""
+def jobs_allowed():
+    """How many jobs there may be at once as far as memory goes."""
     with open("/proc/meminfo", encoding="ascii") as lines:
         free = next((int(it.split()[1]) * 1024 for it in lines if it.startswith("MemAvailable")), MEMORY)
-    return max(1, min(processors() * 3 // 2, free // MEMORY))
+    return max(1, free // MEMORY)
 
 
 class Build:
@@ -229,7 +231,9 @@ class Build:
         self.started, self.is_terminal = time.time(), sys.stderr.isatty()
         self.running, self.selector = {}, selectors.DefaultSelector()
         self.done = len(uses) - len(left)
-        self.ahead, self.places = work_ahead(uses), places()
+        # (a job waits at times, so there are more places than processors)
+        self.ahead, self.most = work_ahead(uses), jobs_allowed()
+        self.places = min(self.most, max(1, processors() * 3 // 2))
 
     def minutes(self):
         return f"{(time.time() - self.started) / 60:.1f} minutes"
@@ -259,27 +263,31 @@ class Build:
     def start_ready(self):
         ready = self.ready()
         for place, crate in enumerate(ready):
-            free = self.places - sum(it.jobs for it in self.running.values())
-            if free < 1:
+            rank = self.rank_of(crate)
+            jobs = self.jobs_of(rank, len(ready) - place - 1)
+            if jobs < 1:
                 return
             # (rt itself keeps others out of the program's folder)
             lock = None if crate == "copro" else take_lock(f"{TOP}/crates/{crate}")
             if lock is not None or crate == "copro":
-                self.start(crate, self.jobs_of(crate, free, len(ready) - place - 1), lock)
+                self.start(crate, jobs, rank, lock)
 
-    def most_ahead(self):
-        return max(self.ahead[it] for it in self.left | set(self.running))
+    def rank_of(self, crate):
+        """0 for a crate of the longest chain of those left, which decides when all is done, and more the less work a crate has ahead."""
+        most = max(self.ahead[it] for it in self.left | set(self.running))
+        return min(19, round(30 * (1 - self.ahead[crate] / most)))
 
-    def jobs_of(self, crate, free, waiting):
-        """How many jobs a crate gets of the free places: what those that wait leave, and two if it is the first on the longest chain."""
-        least = 2 if self.ahead[crate] == self.most_ahead() else 1
-        return min(free, processors(), 4, max(least, free - waiting))
+    def jobs_of(self, rank, waiting):
+        """How many jobs a crate gets: what those that wait leave of the free places, and no fewer than JOBS if its rank is urgent."""
+        taken = sum(it.jobs for it in self.running.values())
+        free = self.places - taken
+        least = JOBS if rank <= URGENT else min(1, free)
+        return min(self.most - taken, processors(), 4, max(least, free - waiting))
 
-    def start(self, crate, jobs, lock):
-        # (the longest chain of crates decides when all is done, so the less a crate has ahead, the later the processors serve it)
-        rank = round(15 * (1 - self.ahead[crate] / self.most_ahead()))
+    def start(self, crate, jobs, rank, lock):
         os.makedirs(f"{TOP}/crates/{crate}/out", exist_ok=True)
         self.note(f"{crate} begins, {jobs} jobs, rank {rank}")
+        # (the processors serve a proof the later, the higher its rank is)
         proof = Proof(crate, sorted(all_below(crate, self.uses)), jobs, rank, lock)
         self.left.remove(crate)
         self.running[crate] = proof
