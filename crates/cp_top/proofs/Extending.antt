@@ -14,17 +14,18 @@ use Rattle.cp_logic.specs.Pairs.{pairs_of}
 use Rattle.cp_extend.specs.ModelText.{model_text}
 use Rattle.cp_words.specs.Words.{Extend, extend_options}
 use Rattle.cp_top.specs.declared.outcome.Outcome.TheVariants.{Refused}
-use Rattle.cp_top.specs.declared.outcome.Refusal.{Refusal}
-use Rattle.cp_top.specs.declared.outcome.Refusal.TheVariants.{Usage, OpenFault, ReadFault, TooLarge, BadInput, BadStack, BadModel, NoModel, WriteFault, NoMemory}
-use Rattle.cp_top.specs.Options.{Taken}
+use Rattle.cp_roles.specs.declared.refusal.Refusal.{Refusal}
+use Rattle.cp_roles.specs.declared.refusal.Refusal.TheVariants.{Usage, OpenFault, ReadFault, TooLarge, BadInput, BadStack, BadModel, NoModel, WriteFault, NoMemory}
+use Rattle.cp_roles.specs.Options.{Taken}
 use Rattle.cp_top.specs.Run.{AreBound}
-use Rattle.cp_top.specs.Bindings.{binding_of, JustBound, BoundSoFar}
-use Rattle.cp_top.specs.Texts.{NothingGrew, HaveGrown, HaveStopped}
-use Rattle.cp_top.specs.Commands.{extend_bindings, extend_texts}
-use Rattle.cp_top.specs.Input.{StackReads, ModelReads, ModelAnswer, ReadsStack, ReadsModel}
+use Rattle.cp_roles.specs.Bindings.{binding_of, JustBound, BoundSoFar}
+use Rattle.cp_roles.specs.Texts.{NothingGrew, HaveGrown, HaveStopped}
+use Rattle.cp_roles.specs.Commands.{extend_bindings}
+use Rattle.cp_top.specs.Commands.{extend_texts}
+use Rattle.cp_roles.specs.Input.{StackReads, ModelReads, ModelAnswer, ReadsStack, ReadsModel}
 use Rattle.cp_stack.specs.Reads.{stack_of}
 use Rattle.cp_top.specs.Extension.{ReadsBoth, PrintsFull, PrintsFullFront}
-use Rattle.cp_top.proofs.TextsWritten.{none-written, written-on, written-off, grown-since, stopped-since}
+use Rattle.cp_roles.proofs.lemmas.TextsWritten.{none-written, written-on, written-off, grown-since, stopped-since}
 
 -- Both inputs are read, and the model is completed and written.
 module _ (old p1 p2 p3 new : Ports) (o : Extend) (s : HeldStack) (values full : List Bool) (bound : BoundSoFar (extend_bindings o) old p1)

@@ -13,12 +13,13 @@ use Rattle.cp_summary.specs.Text.{sizes_of}
 use Rattle.cp_sweep.specs.declared.turns.Swept.{Swept}
 use Rattle.cp_sweep.specs.Swept.{IsSwept, IsUnspent}
 use Rattle.cp_words.specs.Words.{Generate, generate_options}
-use Rattle.cp_top.specs.Bindings.{BoundSoFar}
-use Rattle.cp_top.specs.Texts.{HaveGrown, HaveStopped}
-use Rattle.cp_top.specs.Commands.{generate_bindings, generate_texts, summary_of}
+use Rattle.cp_roles.specs.Bindings.{BoundSoFar}
+use Rattle.cp_roles.specs.Texts.{HaveGrown, HaveStopped}
+use Rattle.cp_roles.specs.Commands.{generate_bindings}
+use Rattle.cp_top.specs.Commands.{generate_texts, summary_of}
 use Rattle.cp_top.specs.Simplified.{IsSimplified}
 use Rattle.cp_top.specs.Generation.{all_rules, formula_for, summary_after, SimplifiesGenerated, PrintsSummary, PrintsSummaryFront}
-use Rattle.cp_top.proofs.TextsWritten.{none-written, written-on, written-off, grown-since, stopped-since}
+use Rattle.cp_roles.proofs.lemmas.TextsWritten.{none-written, written-on, written-off, grown-since, stopped-since}
 use Rattle.cp_top.proofs.Simplifying.{swept-simplified, swept-after}
 
 -- the numbers of a formula that is made are in range

@@ -5,9 +5,9 @@ use Rattle.cp_logic.specs.Slots.{Held}
 use Rattle.cp_words.specs.declared.words.UsageKind.TheVariants as kind
 use Rattle.cp_words.specs.Words.{Simplify, simplify_options}
 use Rattle.cp_top.specs.declared.outcome.Outcome.TheVariants.{Refused}
-use Rattle.cp_top.specs.declared.outcome.Refusal.{Refusal}
-use Rattle.cp_top.specs.declared.outcome.Refusal.TheVariants.{Usage, OpenFault, ReadFault, TooLarge, BadInput, BadStack, BadModel, NoModel, WriteFault, NoMemory}
-use Rattle.cp_top.specs.Commands.{simplify_bindings}
+use Rattle.cp_roles.specs.declared.refusal.Refusal.{Refusal}
+use Rattle.cp_roles.specs.declared.refusal.Refusal.TheVariants.{Usage, OpenFault, ReadFault, TooLarge, BadInput, BadStack, BadModel, NoModel, WriteFault, NoMemory}
+use Rattle.cp_roles.specs.Commands.{simplify_bindings}
 use Rattle.cp_top.specs.Run.{HasCause, IsWritten, AreBound}
 use Rattle.cp_top.specs.Steps.{Begins}
 use Rattle.cp_top.proofs.Simplify.{still-bound, nothing-grew}

@@ -24,17 +24,18 @@ use Rattle.cp_summary.specs.Text.{sizes_of}
 use Rattle.cp_words.specs.Words.{Simplify, simplify_options}
 use Rattle.cp_top.specs.declared.outcome.Outcome.{Outcome}
 use Rattle.cp_top.specs.declared.outcome.Outcome.TheVariants.{Done, Extended, Generated, Refused}
-use Rattle.cp_top.specs.declared.outcome.Refusal.{Refusal}
-use Rattle.cp_top.specs.declared.outcome.Refusal.TheVariants.{Usage, OpenFault, ReadFault, TooLarge, BadInput, BadStack, BadModel, NoModel, WriteFault, NoMemory}
+use Rattle.cp_roles.specs.declared.refusal.Refusal.{Refusal}
+use Rattle.cp_roles.specs.declared.refusal.Refusal.TheVariants.{Usage, OpenFault, ReadFault, TooLarge, BadInput, BadStack, BadModel, NoModel, WriteFault, NoMemory}
 use Rattle.cp_top.specs.declared.work.Simplified.{Simplified}
 use Rattle.cp_top.specs.Status.{status_of}
-use Rattle.cp_top.specs.Bindings.{binding_of, way_of, JustBound, BoundSoFar}
-use Rattle.cp_top.specs.Texts.{Written, write, is_written, NothingGrew, HaveGrown, HaveStopped, OnlyWrites, WrittenSoFar, FailedToWrite}
-use Rattle.cp_top.specs.Commands.{simplify_bindings, simplify_texts, summary_of}
-use Rattle.cp_top.specs.Input.{FormulaReads, ReadsFormula}
+use Rattle.cp_roles.specs.Bindings.{binding_of, way_of, JustBound, BoundSoFar}
+use Rattle.cp_roles.specs.Texts.{Written, write, is_written, NothingGrew, HaveGrown, HaveStopped, OnlyWrites, WrittenSoFar, FailedToWrite}
+use Rattle.cp_roles.specs.Commands.{simplify_bindings}
+use Rattle.cp_top.specs.Commands.{simplify_texts, summary_of}
+use Rattle.cp_roles.specs.Input.{FormulaReads, ReadsFormula}
 use Rattle.cp_top.specs.Run.{HasCause, IsWritten, AreBound, SimplifiesInput, PrintsResult, PrintsFront, WriteFailed, texts_after}
 use Rattle.cp_top.specs.Steps.{Begins, Finishes, IsResult, texts_of}
-use Rattle.cp_top.proofs.TextsWritten.{none-written, written-on, written-off, grown-since, stopped-since}
+use Rattle.cp_roles.proofs.lemmas.TextsWritten.{none-written, written-on, written-off, grown-since, stopped-since}
 use Rattle.cp_top.proofs.OneWorker.{only_posts}
 use Rattle.cp_top.proofs.Simplifying.{swept-simplified}
 

@@ -8,8 +8,8 @@ use Rattle.cp_words.specs.declared.words.WordsRefusal.TheVariants as refusal
 use Rattle.cp_words.specs.Words.{extend_options, generate_options}
 use Rattle.cp_words.specs.Answers.{Answers, extend_seen, generate_seen}
 use Rattle.cp_top.specs.declared.outcome.Outcome.TheVariants.{Refused}
-use Rattle.cp_top.specs.declared.outcome.Refusal.{Refusal}
-use Rattle.cp_top.specs.Refused.{WordsRefused}
+use Rattle.cp_roles.specs.declared.refusal.Refusal.{Refusal}
+use Rattle.cp_roles.specs.Refused.{WordsRefused}
 use Rattle.cp_top.specs.Extension.{HasExtendCause}
 use Rattle.cp_top.specs.Generation.{HasGenerateCause}
 

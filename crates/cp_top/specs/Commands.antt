@@ -1,7 +1,6 @@
--- The commands: which roles each binds and under which names, and which texts it writes in which order.
+-- The commands: which texts each writes, in which order.
 use Rattle.std.specs.Prelude.{ℕ, List, [], ◌∷◌, Bool, Option, length}
-use Rattle.cp_io.specs.declared.role.Role.TheVariants.{Cnf, Reduced, Stack, Proof, Model, Full, Summary}
-use Rattle.cp_io.specs.declared.role.Way.TheVariants.{In, Out}
+use Rattle.cp_io.specs.declared.role.Role.TheVariants.{Reduced, Stack, Proof, Full, Summary}
 use Rattle.cp_logic.specs.declared.settings.Form.{Form}
 use Rattle.cp_logic.specs.declared.stop.Stop.{Stop}
 use Rattle.cp_logic.specs.Assignments.{Pair}
@@ -14,22 +13,8 @@ use Rattle.cp_extend.specs.ModelText.{model_text}
 use Rattle.cp_stack.specs.Text.{stack_text}
 use Rattle.cp_summary.specs.declared.sizes.Sizes.{Sizes}
 use Rattle.cp_summary.specs.Text.{summary_text}
-use Rattle.cp_words.specs.Words.{Simplify, Extend, Generate}
-use Rattle.cp_top.specs.Bindings.{Binding, bind}
 use Rattle.cp_top.specs.Status.{status_of}
-use Rattle.cp_top.specs.Texts.{Written, write}
-
--- the roles of `simplify`, in the order in which they are bound
-abbrev pub simplify_bindings : Simplify → List Binding
-simplify_bindings o = bind Cnf In o.cnf ∷ (bind Reduced Out o.reduced ∷ (bind Stack Out o.stack ∷ (bind Proof Out o.proof ∷ (bind Summary Out o.summary ∷ []))))
-
--- of `extend`
-abbrev pub extend_bindings : Extend → List Binding
-extend_bindings o = bind Stack In o.stack ∷ (bind Model In o.model ∷ (bind Full Out o.full ∷ []))
-
--- and of `generate`
-abbrev pub generate_bindings : Generate → List Binding
-generate_bindings o = bind Summary Out o.summary ∷ []
+use Rattle.cp_roles.specs.Texts.{Written, write}
 
 -- what is told of a run: how large its formula was, what is left, what was posted, the number of pairs, and why it stopped
 abbrev pub summary_of : Sizes → List Post → List Pair → Formula → Option Stop → List ℕ

@@ -14,12 +14,13 @@ use Rattle.cp_words.specs.declared.words.UsageKind.TheVariants as kind
 use Rattle.cp_words.specs.Words.{extend_options}
 use Rattle.cp_top.specs.declared.outcome.Outcome.{Outcome}
 use Rattle.cp_top.specs.declared.outcome.Outcome.TheVariants.{Done, Extended, Generated, Refused}
-use Rattle.cp_top.specs.declared.outcome.Refusal.TheVariants.{Usage, OpenFault, ReadFault, TooLarge, BadInput, BadStack, BadModel, NoModel, WriteFault, NoMemory}
-use Rattle.cp_top.specs.Options.{Taken}
-use Rattle.cp_top.specs.Bindings.{BindFailed}
-use Rattle.cp_top.specs.Texts.{HaveGrown, HaveStopped, NothingGrew}
-use Rattle.cp_top.specs.Commands.{extend_bindings, extend_texts}
-use Rattle.cp_top.specs.Input.{StackReads, ModelReads}
+use Rattle.cp_roles.specs.declared.refusal.Refusal.TheVariants.{Usage, OpenFault, ReadFault, TooLarge, BadInput, BadStack, BadModel, NoModel, WriteFault, NoMemory}
+use Rattle.cp_roles.specs.Options.{Taken}
+use Rattle.cp_roles.specs.Bindings.{BindFailed}
+use Rattle.cp_roles.specs.Texts.{HaveGrown, HaveStopped, NothingGrew}
+use Rattle.cp_roles.specs.Commands.{extend_bindings}
+use Rattle.cp_top.specs.Commands.{extend_texts}
+use Rattle.cp_roles.specs.Input.{StackReads, ModelReads}
 use Rattle.cp_top.specs.Run.{ReadFailed, WriteFailed}
 
 -- the stack reads well, and the model for its variables is refused so

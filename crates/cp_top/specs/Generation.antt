@@ -12,11 +12,12 @@ use Rattle.cp_words.specs.declared.words.UsageKind.TheVariants as kind
 use Rattle.cp_words.specs.Words.{Generate, generate_options}
 use Rattle.cp_top.specs.declared.outcome.Outcome.{Outcome}
 use Rattle.cp_top.specs.declared.outcome.Outcome.TheVariants.{Done, Extended, Generated, Refused}
-use Rattle.cp_top.specs.declared.outcome.Refusal.TheVariants.{Usage, OpenFault, ReadFault, TooLarge, BadInput, BadStack, BadModel, NoModel, WriteFault, NoMemory}
-use Rattle.cp_top.specs.Options.{Taken}
-use Rattle.cp_top.specs.Bindings.{BindFailed}
-use Rattle.cp_top.specs.Texts.{Written, HaveGrown, HaveStopped, NothingGrew}
-use Rattle.cp_top.specs.Commands.{generate_bindings, generate_texts}
+use Rattle.cp_roles.specs.declared.refusal.Refusal.TheVariants.{Usage, OpenFault, ReadFault, TooLarge, BadInput, BadStack, BadModel, NoModel, WriteFault, NoMemory}
+use Rattle.cp_roles.specs.Options.{Taken}
+use Rattle.cp_roles.specs.Bindings.{BindFailed}
+use Rattle.cp_roles.specs.Texts.{Written, HaveGrown, HaveStopped, NothingGrew}
+use Rattle.cp_roles.specs.Commands.{generate_bindings}
+use Rattle.cp_top.specs.Commands.{generate_texts}
 use Rattle.cp_top.specs.Run.{WriteFailed}
 use Rattle.cp_top.specs.Simplified.{IsSimplified}
 

@@ -13,13 +13,14 @@ use Rattle.cp_summary.specs.declared.sizes.Sizes.{Sizes}
 use Rattle.cp_words.specs.Words.{Simplify, simplify_options}
 use Rattle.cp_top.specs.declared.outcome.Outcome.{Outcome}
 use Rattle.cp_top.specs.declared.outcome.Outcome.TheVariants.{Done, Refused}
-use Rattle.cp_top.specs.declared.outcome.Refusal.{Refusal}
-use Rattle.cp_top.specs.declared.outcome.Refusal.TheVariants.{OpenFault, WriteFault}
+use Rattle.cp_roles.specs.declared.refusal.Refusal.{Refusal}
+use Rattle.cp_roles.specs.declared.refusal.Refusal.TheVariants.{OpenFault, WriteFault}
 use Rattle.cp_top.specs.declared.work.Simplified.{Simplified}
-use Rattle.cp_top.specs.Bindings.{BoundSoFar, FailedToBind}
-use Rattle.cp_top.specs.Texts.{Written, WrittenSoFar, FailedToWrite}
-use Rattle.cp_top.specs.Commands.{simplify_bindings, simplify_texts}
-use Rattle.cp_top.specs.Input.{ReadsFormula}
+use Rattle.cp_roles.specs.Bindings.{BoundSoFar, FailedToBind}
+use Rattle.cp_roles.specs.Texts.{Written, WrittenSoFar, FailedToWrite}
+use Rattle.cp_roles.specs.Commands.{simplify_bindings}
+use Rattle.cp_top.specs.Commands.{simplify_texts}
+use Rattle.cp_roles.specs.Input.{ReadsFormula}
 use Rattle.cp_top.specs.Status.{status_of}
 use Rattle.cp_top.specs.Team.{IsTeamwork}
 

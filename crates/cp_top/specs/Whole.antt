@@ -4,7 +4,7 @@ use Rattle.std.specs.Prelude.{ℕ, List, codes, MatchBool}
 use Rattle.cp_io.specs.Port.{Ports}
 use Rattle.cp_words.specs.Words.{is_command, simplify_options, extend_options, generate_options}
 use Rattle.cp_top.specs.declared.outcome.Outcome.{Outcome}
-use Rattle.cp_top.specs.Commands.{simplify_bindings, extend_bindings, generate_bindings}
+use Rattle.cp_roles.specs.Commands.{simplify_bindings, extend_bindings, generate_bindings}
 use Rattle.cp_top.specs.Run.{HasCause, IsWritten, AreBound, asked_workers}
 use Rattle.cp_top.specs.Extension.{HasExtendCause, IsExtension}
 use Rattle.cp_top.specs.Generation.{HasGenerateCause, IsGeneration}

@@ -5,20 +5,19 @@ ghost use Rattle.cp_io.specs.Port.{NothingBound};
 ghost use Rattle.cp_words.specs.Words.{Simplify, simplify_options};
 ghost use Rattle.cp_words.specs.Answers.{simplify_seen, HasSimplifyLimits};
 ghost use Rattle.cp_top.specs.declared.outcome.Outcome.TheVariants.{Refused};
-ghost use Rattle.cp_top.specs.Commands.{simplify_bindings};
+ghost use Rattle.cp_roles.specs.Commands.{simplify_bindings};
 ghost use Rattle.cp_top.specs.Run.{HasCause, IsWritten, AreBound, asked_workers, no_workers};
 ghost use Rattle.cp_top.specs.Steps.{Begins, HasBegun};
 ghost use Rattle.cp_top.specs.Whole.{HasWholeCause, IsWholeWritten, AreWholeBound};
 
-use crate::binding::bind_simplify;
 use crate::extension::run_extend;
 use crate::generation::run_gen;
-use crate::input::read_formula;
-use crate::outcome::{Outcome, Refusal, refusal_of};
+use crate::outcome::Outcome;
 use crate::output::finish;
 use crate::work::{simplify_alone, simplify_by};
 use cp_io::Desk;
 use cp_logic::Formula;
+use cp_roles::{Refusal, bind_simplify, read_formula};
 use cp_summary::Sizes;
 use cp_words::{SimplifyOptions, is_command, read_simplify_words};
 use cp_worker::Gate;
@@ -128,7 +127,7 @@ fn begin<'a, D: Desk>(
 {
     let options = match read_simplify_words(alloc, words) {
         Ok(options) => options,
-        Err(refusal) => return Err(refusal_of(refusal)),
+        Err(refusal) => return Err(Refusal::of_options(refusal)),
     };
     match bind_and_read(alloc, desk, &options) {
         Ok(formula) => Ok((options, formula)),

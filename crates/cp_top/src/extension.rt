@@ -3,16 +3,15 @@
 ghost use Rattle.std.specs.Prelude.{map, string_bytes};
 ghost use Rattle.cp_io.specs.Port.{NothingBound};
 ghost use Rattle.cp_words.specs.Words.{extend_options};
-ghost use Rattle.cp_top.specs.Commands.{extend_bindings};
+ghost use Rattle.cp_roles.specs.Commands.{extend_bindings};
 ghost use Rattle.cp_top.specs.Extension.{HasExtendCause, IsExtension};
 ghost use Rattle.cp_top.specs.Run.{AreBound};
 
-use crate::binding::bind_extend;
-use crate::input::{read_model, read_stack};
-use crate::outcome::{Outcome, Refusal, refusal_of};
+use crate::outcome::Outcome;
 use cp_extend::{extend, print_model};
 use cp_io::{Desk, Role};
 use cp_logic::Journal;
+use cp_roles::{Refusal, bind_extend, read_model, read_stack};
 use cp_words::read_extend_words;
 use std::alloc::Global;
 
@@ -36,7 +35,7 @@ pub fn run_extend<D: Desk>(alloc: Global, words: &[String], desk: &mut D) -> Out
 {
     let options = match read_extend_words(alloc, words) {
         Ok(options) => options,
-        Err(refusal) => return Outcome::Refused(refusal_of(refusal)),
+        Err(refusal) => return Outcome::Refused(Refusal::of_options(refusal)),
     };
     if let Err(role) = bind_extend(desk, &options) {
         return Outcome::Refused(Refusal::OpenFault { role });

@@ -3,16 +3,16 @@
 ghost use Rattle.std.specs.Prelude.{map, string_bytes};
 ghost use Rattle.cp_io.specs.Port.{NothingBound};
 ghost use Rattle.cp_words.specs.Words.{generate_options};
-ghost use Rattle.cp_top.specs.Commands.{generate_bindings};
+ghost use Rattle.cp_roles.specs.Commands.{generate_bindings};
 ghost use Rattle.cp_top.specs.Generation.{HasGenerateCause, IsGeneration};
 ghost use Rattle.cp_top.specs.Run.{AreBound};
 
-use crate::binding::bind_generate;
-use crate::outcome::{Outcome, Refusal, refusal_of};
+use crate::outcome::Outcome;
 use crate::output::print_counts;
 use cp_gen::generate;
 use cp_io::{Desk, Role};
 use cp_logic::{Choice, Rules};
+use cp_roles::{Refusal, bind_generate};
 use cp_summary::Sizes;
 use cp_sweep::simplify;
 use cp_words::read_generate_words;
@@ -50,7 +50,7 @@ pub fn run_gen<D: Desk>(alloc: Global, words: &[String], desk: &mut D) -> Outcom
 {
     let options = match read_generate_words(alloc, words) {
         Ok(options) => options,
-        Err(refusal) => return Outcome::Refused(refusal_of(refusal)),
+        Err(refusal) => return Outcome::Refused(Refusal::of_options(refusal)),
     };
     if let Err(role) = bind_generate(desk, &options) {
         return Outcome::Refused(Refusal::OpenFault { role });

@@ -9,14 +9,15 @@ ghost use Rattle.cp_words.specs.Answers.{simplify_seen};
 ghost use Rattle.cp_top.specs.Commands.{summary_of};
 ghost use Rattle.cp_top.specs.Status.{status_of};
 ghost use Rattle.cp_top.specs.Steps.{Finishes, texts_of};
-ghost use Rattle.cp_top.specs.Texts.{WritesInTurn};
+ghost use Rattle.cp_roles.specs.Texts.{WritesInTurn};
 
-use crate::outcome::{Outcome, Refusal};
+use crate::outcome::Outcome;
 use crate::work::Simplified;
 use cp_dimacs::print_cnf;
 use cp_drat::print_log;
 use cp_io::{Desk, Failed, Role};
 use cp_logic::Formula;
+use cp_roles::Refusal;
 use cp_stack::print_stack;
 use cp_summary::{Sizes, print_summary};
 use cp_sweep::Swept;

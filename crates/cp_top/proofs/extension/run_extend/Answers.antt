@@ -17,7 +17,7 @@ returns-clause-written g c =
     (sym c.is_err.ensures.value ∙ c.if-is_err.false)
 
 pub returns-in-Err-clause-cause : goal.returns-in-Err-clause-cause
-returns-in-Err-clause-cause g c = extend-refused (map string_bytes c.args.words.now) (g.D.Desk.port c.args.desk.now) (g.D.Desk.port c.args.desk.now) c.in-Err.refusal c.refusal_of.result c.in-Err.ensures c.refusal_of.ensures
+returns-in-Err-clause-cause g c = extend-refused (map string_bytes c.args.words.now) (g.D.Desk.port c.args.desk.now) (g.D.Desk.port c.args.desk.now) c.in-Err.refusal c.of_options.result c.in-Err.ensures c.of_options.ensures
 
 pub returns-in-Err-read_model-clause-bound : goal.returns-in-Err-read_model-clause-bound
 returns-in-Err-read_model-clause-bound g c =

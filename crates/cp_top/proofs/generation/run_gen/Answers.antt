@@ -5,7 +5,7 @@ use Rattle.cp_top.proofs.Generating.{numbers-left, prints-summary, prints-summar
 use Rattle.cp_top.proofs.generation.run_gen.Goals as goal
 
 pub returns-in-Err-clause-cause : goal.returns-in-Err-clause-cause
-returns-in-Err-clause-cause g c = generate-refused (map string_bytes c.args.words.now) (g.D.Desk.port c.args.desk.now) (g.D.Desk.port c.args.desk.now) c.in-Err.refusal c.refusal_of.result c.in-Err.ensures.answer c.refusal_of.ensures
+returns-in-Err-clause-cause g c = generate-refused (map string_bytes c.args.words.now) (g.D.Desk.port c.args.desk.now) (g.D.Desk.port c.args.desk.now) c.in-Err.refusal c.of_options.result c.in-Err.ensures.answer c.of_options.ensures
 
 pub simplify-requires : goal.simplify-requires
 simplify-requires g c = record {

@@ -4,8 +4,8 @@ ghost use Rattle.std.specs.Prelude.{◌≡◌, []};
 ghost use Rattle.cp_io.specs.declared.role.Way.TheVariants.{In, Out};
 ghost use Rattle.cp_io.specs.Port.{NothingBound};
 ghost use Rattle.cp_words.specs.Answers.{simplify_seen, extend_seen, generate_seen};
-ghost use Rattle.cp_top.specs.Bindings.{AreApart, BindsInTurn, wanted};
-ghost use Rattle.cp_top.specs.Commands.{simplify_bindings, extend_bindings, generate_bindings};
+ghost use Rattle.cp_roles.specs.Bindings.{AreApart, BindsInTurn, wanted};
+ghost use Rattle.cp_roles.specs.Commands.{simplify_bindings, extend_bindings, generate_bindings};
 
 use cp_io::{Desk, Role, Way};
 use cp_words::{ExtendOptions, GenerateOptions, SimplifyOptions};
@@ -19,10 +19,7 @@ pub(crate) struct Bind<'a> {
 }
 
 /// Binds the roles of `simplify`. At an error it is the role that could not be bound.
-pub(crate) fn bind_simplify<D: Desk>(
-    desk: &mut D,
-    options: &SimplifyOptions<'_>,
-) -> Result<(), Role>
+pub fn bind_simplify<D: Desk>(desk: &mut D, options: &SimplifyOptions<'_>) -> Result<(), Role>
     requires { NothingBound (D.port desk.old) }
     ensures { BindsInTurn (simplify_bindings (simplify_seen options.now)) result (D.port desk.old) (D.port desk.new) }
 {
@@ -37,7 +34,7 @@ pub(crate) fn bind_simplify<D: Desk>(
 }
 
 /// Binds the roles of `extend`. At an error it is the role that could not be bound.
-pub(crate) fn bind_extend<D: Desk>(desk: &mut D, options: &ExtendOptions<'_>) -> Result<(), Role>
+pub fn bind_extend<D: Desk>(desk: &mut D, options: &ExtendOptions<'_>) -> Result<(), Role>
     requires { NothingBound (D.port desk.old) }
     ensures { BindsInTurn (extend_bindings (extend_seen options.now)) result (D.port desk.old) (D.port desk.new) }
 {
@@ -50,10 +47,7 @@ pub(crate) fn bind_extend<D: Desk>(desk: &mut D, options: &ExtendOptions<'_>) ->
 }
 
 /// Binds the role of `generate`. At an error it is the role, which could not be bound.
-pub(crate) fn bind_generate<D: Desk>(
-    desk: &mut D,
-    options: &GenerateOptions<'_>,
-) -> Result<(), Role>
+pub fn bind_generate<D: Desk>(desk: &mut D, options: &GenerateOptions<'_>) -> Result<(), Role>
     requires { NothingBound (D.port desk.old) }
     ensures { BindsInTurn (generate_bindings (generate_seen options.now)) result (D.port desk.old) (D.port desk.new) }
 {

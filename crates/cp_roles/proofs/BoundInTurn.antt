@@ -6,9 +6,9 @@ use Rattle.std.proofs.Math.Seq.{take-suc, drop-cons}
 use Rattle.std.proofs.lemmas.List.{map-append, take-append-drop}
 use Rattle.cp_io.specs.declared.desk.Failed.{Failed}
 use Rattle.cp_io.specs.Port.{Ports, AtRole, Binds}
-use Rattle.cp_top.specs.declared.binding.Bind.{Bind}
-use Rattle.cp_top.specs.Bindings.{Binding, bind, wanted, AreApart, BoundSoFar, FailedToBind}
-use Rattle.cp_top.proofs.RolesBound.{bound-on, bound-off, unbound-next}
+use Rattle.cp_roles.specs.declared.binding.Bind.{Bind}
+use Rattle.cp_roles.specs.Bindings.{Binding, bind, wanted, AreApart, BoundSoFar, FailedToBind}
+use Rattle.cp_roles.proofs.RolesBound.{bound-on, bound-off, unbound-next}
 
 -- a place in the list: what is before it, and what is from it on
 module _ (bs : List Bind) (i : ℕ) (d : Bind) (low : i < length bs) where

@@ -5,7 +5,7 @@ use Rattle.cp_io.specs.declared.role.Role.{Role}
 use Rattle.cp_io.specs.declared.role.Way.{Way}
 use Rattle.cp_io.specs.Roles.{same_role}
 use Rattle.cp_io.specs.Port.{Ports, Rose}
-use Rattle.cp_top.specs.declared.binding.Bind.{Bind}
+use Rattle.cp_roles.specs.declared.binding.Bind.{Bind}
 
 pub record Binding : Type 0 where
   pub role : Role

@@ -1,8 +1,8 @@
 use Rattle.std.proofs.Common.{[], sym, ◌∙◌}
 use Rattle.cp_io.specs.declared.role.Role.TheVariants.{Cnf}
 use Rattle.cp_io.specs.declared.role.Way.TheVariants.{In}
-use Rattle.cp_top.proofs.BoundInTurn.{next-failed, next-bound, next-apart}
-use Rattle.cp_top.proofs.binding.bind_all.Goals as goal
+use Rattle.cp_roles.proofs.BoundInTurn.{next-failed, next-bound, next-apart}
+use Rattle.cp_roles.proofs.binding.bind_all.Goals as goal
 
 pub returns-then-is_err : goal.returns-then-is_err
 returns-then-is_err g c =

@@ -9,8 +9,8 @@ use Rattle.cp_io.specs.Roles.{same_role}
 use Rattle.cp_io.specs.Port.{Port, Ports, AtRole, Writes}
 use Rattle.cp_io.proofs.RoleCases.{role_cases, kept}
 use Rattle.cp_io.proofs.Writing.{append_known-nil}
-use Rattle.cp_top.specs.Texts.{Written, write, text_of, is_written, texts_before, HaveGrown, HaveStopped, NothingGrew, OnlyWrites, WrittenSoFar, FailedToWrite}
-use Rattle.cp_top.proofs.RolesBound.{same_role-refl, same_role-apart}
+use Rattle.cp_roles.specs.Texts.{Written, write, text_of, is_written, texts_before, HaveGrown, HaveStopped, NothingGrew, OnlyWrites, WrittenSoFar, FailedToWrite}
+use Rattle.cp_roles.proofs.RolesBound.{same_role-refl, same_role-apart}
 
 -- a text behind others that aren't of its role
 text-here : (ws after : List Written) (w : Written) → texts_before w.role ws ≡ ws → text_of (ws ++ w ∷ after) w.role ≡ w.text

@@ -16,9 +16,9 @@ use Rattle.cp_stack.specs.Grammar.{stack_reads}
 use Rattle.cp_stack.specs.Laws.{ReadsWithin as StacksWithin}
 use Rattle.cp_extend.specs.Grammar.{model_reads}
 use Rattle.cp_extend.specs.Laws.{ReadsWithin as ModelsWithin}
-use Rattle.cp_top.specs.declared.outcome.Refusal.{Refusal}
-use Rattle.cp_top.specs.declared.outcome.Refusal.TheVariants.{Usage, OpenFault, ReadFault, TooLarge, BadInput, BadStack, BadModel, NoModel, WriteFault, NoMemory}
-use Rattle.cp_top.specs.Input.{ReadsInput, ReadsFormula, FormulaAnswer, FormulaSaid, ReadsStack, StackAnswer, StackSaid, ReadsModel, ModelAnswer, ModelSaid}
+use Rattle.cp_roles.specs.declared.refusal.Refusal.{Refusal}
+use Rattle.cp_roles.specs.declared.refusal.Refusal.TheVariants.{Usage, OpenFault, ReadFault, TooLarge, BadInput, BadStack, BadModel, NoModel, WriteFault, NoMemory}
+use Rattle.cp_roles.specs.Input.{ReadsInput, ReadsFormula, FormulaAnswer, FormulaSaid, ReadsStack, StackAnswer, StackSaid, ReadsModel, ModelAnswer, ModelSaid}
 
 -- the bytes that were read are the front of the text
 front-of : (most : ℕ) (bytes rest : List ℕ) → length bytes ≤ most → (length bytes < most → rest ≡ []) → bytes ≡ take most (bytes ++ rest)

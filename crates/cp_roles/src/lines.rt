@@ -1,9 +1,9 @@
 //! The line of each refusal.
 
 ghost use Rattle.std.specs.Prelude.{◌≡◌, Some};
-ghost use Rattle.cp_top.specs.Lines.{counted, input_word, model_word, refusal_line, role_word, stack_word, usage_line};
+ghost use Rattle.cp_roles.specs.Lines.{counted, input_word, model_word, refusal_line, role_word, stack_word, usage_line};
 
-use crate::outcome::Refusal;
+use crate::refusal::Refusal;
 use cp_dimacs::InputKind;
 use cp_extend::ModelKind;
 use cp_io::{Limit, Role};

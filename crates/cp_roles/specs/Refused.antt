@@ -2,8 +2,8 @@
 use Rattle.std.specs.Prelude.{◌≡◌}
 use Rattle.cp_words.specs.declared.words.WordsRefusal.{WordsRefusal}
 use Rattle.cp_words.specs.declared.words.WordsRefusal.TheVariants as words
-use Rattle.cp_top.specs.declared.outcome.Refusal.{Refusal}
-use Rattle.cp_top.specs.declared.outcome.Refusal.TheVariants.{Usage, NoMemory}
+use Rattle.cp_roles.specs.declared.refusal.Refusal.{Refusal}
+use Rattle.cp_roles.specs.declared.refusal.Refusal.TheVariants.{Usage, NoMemory}
 
 abbrev pub WordsRefused : WordsRefusal → Refusal → Type 0
 WordsRefused (words.Usage kind) refusal = refusal ≡ Usage kind

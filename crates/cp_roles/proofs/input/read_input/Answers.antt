@@ -1,5 +1,5 @@
-use Rattle.cp_top.proofs.InputsRead.{front}
-use Rattle.cp_top.proofs.input.read_input.Goals as goal
+use Rattle.cp_roles.proofs.InputsRead.{front}
+use Rattle.cp_roles.proofs.input.read_input.Goals as goal
 
 pub returns-in-Ok : goal.returns-in-Ok
 returns-in-Ok g c =

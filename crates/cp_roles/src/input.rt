@@ -5,9 +5,9 @@ ghost use Rattle.cp_io.specs.declared.role.Role.TheVariants as roles;
 ghost use Rattle.cp_io.specs.declared.role.Way.TheVariants.{In};
 ghost use Rattle.cp_io.specs.Port.{AtRole};
 ghost use Rattle.cp_io.specs.Limits.{standard_limits};
-ghost use Rattle.cp_top.specs.Input.{ReadsInput, ReadsFormula, ReadsStack, ReadsModel, FormulaSaid, StackSaid, ModelSaid};
+ghost use Rattle.cp_roles.specs.Input.{ReadsInput, ReadsFormula, ReadsStack, ReadsModel, FormulaSaid, StackSaid, ModelSaid};
 
-use crate::outcome::Refusal;
+use crate::refusal::Refusal;
 use cp_dimacs::{CnfRefusal, parse_cnf};
 use cp_extend::{ModelRefusal, parse_model};
 use cp_io::{Desk, Limits, ReadError, Role, read_up_to};
@@ -19,7 +19,7 @@ use std::alloc::Global;
 const MOST_BYTES: usize = 1_073_741_825;
 
 /// Reads what is left of Cnf as a formula, or says why there is none.
-pub(crate) fn read_formula<D: Desk>(alloc: Global, desk: &mut D) -> Result<Formula, Refusal>
+pub fn read_formula<D: Desk>(alloc: Global, desk: &mut D) -> Result<Formula, Refusal>
     requires { (D.port desk.old roles.Cnf).way ≡ Some In }
     ensures { AtRole roles.Cnf (ReadsFormula result) (D.port desk.old) (D.port desk.new) }
 {
@@ -44,7 +44,7 @@ fn parse_formula(alloc: Global, bytes: &[u8]) -> Result<Formula, Refusal>
 }
 
 /// Reads what is left of Stack as pairs, or says why there are none.
-pub(crate) fn read_stack<D: Desk>(alloc: Global, desk: &mut D) -> Result<Stack, Refusal>
+pub fn read_stack<D: Desk>(alloc: Global, desk: &mut D) -> Result<Stack, Refusal>
     requires { (D.port desk.old roles.Stack).way ≡ Some In }
     ensures { AtRole roles.Stack (ReadsStack result) (D.port desk.old) (D.port desk.new) }
 {
@@ -69,11 +69,7 @@ fn parse_pairs(alloc: Global, bytes: &[u8]) -> Result<Stack, Refusal>
 }
 
 /// Reads what is left of Model as a model of the variables 1 to `vars`, or says why there is none.
-pub(crate) fn read_model<D: Desk>(
-    alloc: Global,
-    desk: &mut D,
-    vars: u32,
-) -> Result<Assignment, Refusal>
+pub fn read_model<D: Desk>(alloc: Global, desk: &mut D, vars: u32) -> Result<Assignment, Refusal>
     requires bound { (D.port desk.old roles.Model).way ≡ Some In }
     requires within { vars ≤ standard_limits.variables }
     ensures { AtRole roles.Model (ReadsModel vars result) (D.port desk.old) (D.port desk.new) }

@@ -19,8 +19,8 @@ use Rattle.cp_stack.specs.Reads.{stack_of}
 use Rattle.cp_extend.specs.declared.refusal.ModelRefusal.{ModelRefusal}
 use Rattle.cp_extend.specs.declared.refusal.ModelRefusal.TheVariants as models
 use Rattle.cp_extend.specs.Grammar.{model_reads}
-use Rattle.cp_top.specs.declared.outcome.Refusal.{Refusal}
-use Rattle.cp_top.specs.declared.outcome.Refusal.TheVariants.{ReadFault, TooLarge, BadInput, BadStack, BadModel, NoModel, NoMemory}
+use Rattle.cp_roles.specs.declared.refusal.Refusal.{Refusal}
+use Rattle.cp_roles.specs.declared.refusal.Refusal.TheVariants.{ReadFault, TooLarge, BadInput, BadStack, BadModel, NoModel, NoMemory}
 
 -- ---- what the bytes of a role say, where the desk tells them
 

@@ -1,6 +1,6 @@
 use Rattle.std.proofs.Common.{take, drop}
-use Rattle.cp_top.specs.Bindings.{wanted, AreApart, BoundSoFar}
-use Rattle.cp_top.proofs.binding.bind_all.Given as goal
+use Rattle.cp_roles.specs.Bindings.{wanted, AreApart, BoundSoFar}
+use Rattle.cp_roles.proofs.binding.bind_all.Given as goal
 
 -- the roles so far are bound, and those that are left are apart from them
 abbrev pub invariant-loop-bind : goal.invariant-loop-bind

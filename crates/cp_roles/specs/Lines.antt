@@ -12,8 +12,8 @@ use Rattle.cp_extend.specs.declared.refusal.ModelKind.{ModelKind}
 use Rattle.cp_extend.specs.declared.refusal.ModelKind.TheVariants as model
 use Rattle.cp_words.specs.declared.words.UsageKind.{UsageKind}
 use Rattle.cp_words.specs.declared.words.UsageKind.TheVariants as usage
-use Rattle.cp_top.specs.declared.outcome.Refusal.{Refusal}
-use Rattle.cp_top.specs.declared.outcome.Refusal.TheVariants.{Usage, OpenFault, ReadFault, TooLarge, BadInput, BadStack, BadModel, NoModel, WriteFault, NoMemory}
+use Rattle.cp_roles.specs.declared.refusal.Refusal.{Refusal}
+use Rattle.cp_roles.specs.declared.refusal.Refusal.TheVariants.{Usage, OpenFault, ReadFault, TooLarge, BadInput, BadStack, BadModel, NoModel, WriteFault, NoMemory}
 
 abbrev pub usage_line : UsageKind → List ℕ
 usage_line usage.Command = codes "no such command"

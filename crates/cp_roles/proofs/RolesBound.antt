@@ -10,7 +10,7 @@ use Rattle.cp_io.specs.declared.role.Way.{Way}
 use Rattle.cp_io.specs.Roles.{role_index, same_role}
 use Rattle.cp_io.specs.Port.{Port, Ports, AtRole, Binds, Rose}
 use Rattle.cp_io.proofs.RoleCases.{role_cases, role_index-apart, kept}
-use Rattle.cp_top.specs.Bindings.{Binding, bind, binding_of, way_of, before, OnlyBinds, BoundSoFar, FailedToBind}
+use Rattle.cp_roles.specs.Bindings.{Binding, bind, binding_of, way_of, before, OnlyBinds, BoundSoFar, FailedToBind}
 
 pub same_role-refl : (r : Role) → same_role r r ≡ true
 same_role-refl r = let n = role_index r in grind (arith, nat_tests)

@@ -1,0 +1,4 @@
+pub mod lemmas
+mod BoundInTurn
+mod InputsRead
+mod RolesBound

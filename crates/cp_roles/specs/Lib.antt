@@ -1,0 +1,7 @@
+pub mod Bindings
+pub mod Commands
+pub mod Input
+pub mod Lines
+pub mod Options
+pub mod Refused
+pub mod Texts
