@@ -8,4 +8,5 @@ pub mod Rows
 pub mod Neighbours
 pub mod Tries
 pub mod Ranges
+mod Readying
 pub mod Examples

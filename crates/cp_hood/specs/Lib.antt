@@ -1,4 +1,5 @@
 pub mod Hoods
+pub mod Ready
 pub mod Seats
 pub mod Tries
 pub mod Rows

@@ -7,9 +7,11 @@ ghost use Rattle.cp_occ.specs.Changes.{places_of, HasRoom, IsChange};
 ghost use Rattle.cp_yard.specs.Views.{SeatView};
 ghost use Rattle.cp_hood.specs.Hoods.{centre_clauses, HoldsJust, IsHood, IsLegalAt};
 ghost use Rattle.cp_hood.specs.Commits.{IsHoodAfter, IsSameHood};
+ghost use Rattle.cp_hood.specs.Ready.{IsReadyFor};
 
+use crate::prepared::Prepared;
 use cp_logic::{Entry, Rules};
-use cp_occ::{Cell, Cells, Prepared};
+use cp_occ::{Cell, Cells};
 use std::alloc::{AllocError, Global};
 use std::marker::Model;
 
@@ -57,26 +59,28 @@ impl Hood {
         self.cells.settle(self.at, rules);
     }
 
-    /// Takes all memory that the cells need for the entry, which fits at the centre: places of its new clauses, and room in the
-    /// cells of their variables. The error comes only for want of memory. The cells list what they listed, also after an error.
+    /// Takes all memory that the cells need for the entry, which fits at the centre: places of its new clauses, a second entry, and room
+    /// in the cells of the new clauses' variables. The error comes only if memory is out. The cells list what they listed, also after an error.
     pub fn prepare(&mut self, alloc: Global, entry: &Entry) -> Result<Prepared, AllocError>
         requires legal { (rules : Rules) × IsLegalAt rules self.old (entry_of entry.now) }
         ensures same { IsSameHood self.old self.new }
         ensures holds { (v : SeatView) → HoldsJust v self.old.cells → HoldsJust v self.new.cells }
-        ensures places { IfOk result (λ p. p ≡ places_of (entry_of entry.now)) }
+        ensures ready { IfOk result (IsReadyFor (entry_of entry.now)) }
         ensures room { OnOk result (HasRoom self.new.cells (entry_of entry.now)) }
     {
-        self.cells.prepare(alloc, entry)
+        let places = self.cells.prepare(alloc, entry)?;
+        Prepared::new(alloc, places, entry)
     }
 
-    // What was prepared for the entry puts its new clauses into the cells, and the clauses that it removes go.
-    pub(crate) fn apply(&mut self, entry: &Entry, prepared: Prepared)
-        requires change { IsChange self.old.cells (entry_of entry.now) }
-        requires places { prepared ≡ places_of (entry_of entry.now) }
-        requires room { HasRoom self.old.cells (entry_of entry.now) }
-        ensures { IsHoodAfter (entry_of entry.now) self.old self.new }
+    // The cells follow the entry for which this was prepared: its new clauses come, and the clauses that it removes go.
+    pub(crate) fn follow(&mut self, prepared: Prepared)
+        requires change { IsChange self.old.cells (entry_of prepared.second) }
+        requires ready { IsReadyFor (entry_of prepared.second) prepared }
+        requires room { HasRoom self.old.cells (entry_of prepared.second) }
+        ensures { IsHoodAfter (entry_of prepared.second) self.old self.new }
     {
-        self.cells.apply(entry, prepared);
+        let Prepared { places, second } = prepared;
+        self.cells.apply(&second, places);
     }
 
     // The cells are those of a hood.

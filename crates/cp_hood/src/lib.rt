@@ -13,11 +13,12 @@ mod hood;
 mod locking;
 mod neighbourhood;
 mod posting;
+mod prepared;
 #[cfg(test)]
 mod tests;
 
 pub use answers::{CommitAnswer, HoodAnswer};
-pub use cp_occ::Prepared;
 pub use hood::Hood;
 pub use locking::{release, try_hood};
 pub use posting::commit;
+pub use prepared::Prepared;

@@ -1,7 +1,8 @@
 //! A commit: the post of one entry under the locks of a hood.
 //!
 //! The turn is tried a given number of times. Under it the entry gets its clause numbers, the book takes it, and the turn ends with
-//! the post. The entry fits in the centre's cell, which nobody else changes, so it is legal without a test.
+//! the post; the hood's cells follow after that, since their locks are still held. The entry fits in the centre's cell, which nobody else
+//! changes, so it is legal without a test.
 ghost use Rattle.std.specs.Prelude.{◌≡◌, ◌+◌, ◌<◌, ◌≤◌, ℕ, List, length, Some, None, IfOk, IfErr, IfSome, IfNone, IsTrue, IsFalse};
 ghost use Rattle.cp_logic.specs.declared.named.Named.{Named};
 ghost use Rattle.cp_logic.specs.Formulas.{has_empty};
@@ -17,12 +18,13 @@ ghost use Rattle.cp_yard.specs.Rule.{clauses_at};
 ghost use Rattle.cp_hood.specs.Hoods.{AreOccurrences, HoldsJust, IsLegalAt, listed_of};
 ghost use Rattle.cp_hood.specs.Seats.{GoesOn, met_turns, noted_all};
 ghost use Rattle.cp_hood.specs.Commits.{IsCommit, IsHoodAfter, IsRefusal, IsTaken};
+ghost use Rattle.cp_hood.specs.Ready.{IsReadyFor};
 
 use crate::answers::CommitAnswer;
 use crate::hood::Hood;
+use crate::prepared::Prepared;
 use cp_book::Book;
 use cp_logic::Entry;
-use cp_occ::Prepared;
 use cp_yard::{Held, Receipt, Seat, Yard};
 
 /// Posts the entry in this round under the seat's number, its new clauses numbered from the book's next number on, and lets the
@@ -42,7 +44,7 @@ pub fn commit(
     requires table { seat.old.table ≡ yard.now.table }
     requires base { seat.old.view.base ≡ yard.now.base }
     requires holds { HoldsJust seat.old.view hood.old.cells }
-    requires prepared { prepared ≡ places_of (entry_of entry) }
+    requires prepared { IsReadyFor (entry_of entry) prepared }
     requires room { HasRoom hood.old.cells (entry_of entry) }
     requires legal { IsLegalAt yard.now.base.rules hood.old (entry_of entry) }
     requires tries { 1 ≤ tries }
@@ -59,7 +61,9 @@ pub fn commit(
         yard.end_turn(seat, book);
         return Err(answer);
     }
-    let entry = entry.numbered(book.next());
+    let next = book.next();
+    let prepared = prepared.numbered(next);
+    let entry = entry.numbered(next);
     if book.prepare(&entry).is_err() {
         yard.end_turn(seat, book);
         return Err(CommitAnswer::NoMemory);
@@ -107,7 +111,7 @@ fn refusal_of(book: &Book, entry: &Entry) -> Option<CommitAnswer>
     None
 }
 
-// Lets the hood's cells follow the entry, which the book takes, and ends the turn with its post.
+// Posts the entry, which the book takes, and ends the turn with its post. Then the hood's cells follow.
 fn post_under_turn(
     yard: &Yard,
     seat: &mut Seat,
@@ -124,7 +128,7 @@ fn post_under_turn(
     requires clauses { AreOccurrences (current book).clauses hood.old.cells }
     requires at { IsTrue (is_at hood.old.centre (entry_of entry)) }
     requires taken { IsTaken book (entry_of entry) }
-    requires places { prepared ≡ places_of (entry_of entry) }
+    requires ready { IsReadyFor (entry_of entry) prepared }
     requires room { HasRoom hood.old.cells (entry_of entry) }
     ensures table { seat.new.table ≡ seat.old.table }
     ensures position { result.position ≡ length book.posts }
@@ -134,9 +138,10 @@ fn post_under_turn(
     let mut book = book;
     book.is_legal();
     hood.is_hood();
-    hood.apply(&entry, prepared);
     if book.post(seat.number(), round, entry).is_err() {
         unreachable!()
     }
-    yard.end_turn_with(seat, book)
+    let receipt = yard.end_turn_with(seat, book);
+    hood.follow(prepared);
+    receipt
 }

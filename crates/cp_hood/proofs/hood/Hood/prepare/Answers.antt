@@ -44,3 +44,25 @@ pub returns-clause-holds : goal.returns-clause-holds
 returns-clause-holds c = λ v k.
     HoldsJust-same v c.self.inside.cells.items c.prepare.new.self.items c.prepare.ensures.variables c.prepare.ensures.lists
     (subst (λ (o : HoodView). HoldsJust v o.cells) (sym c.self.view_is) k)
+
+pub returns-in_err-places-clause-same : goal.returns-in_err-places-clause-same
+returns-in_err-places-clause-same c =
+    let h = c.self.inside in
+    subst (λ (o : HoodView). IsSameHood o (record { centre = h.centre; cells = c.prepare.new.self.items })) c.self.view_is
+    (record {
+      centre = refl;
+      clauses = home-same h.centre h.cells.items c.prepare.new.self.items c.prepare.ensures.variables c.prepare.ensures.lists;
+      variables = c.prepare.ensures.variables;
+      lists = c.prepare.ensures.lists;
+    })
+
+pub returns-in_err-places-clause-holds : goal.returns-in_err-places-clause-holds
+returns-in_err-places-clause-holds c = λ v k.
+    HoldsJust-same v c.self.inside.cells.items c.prepare.new.self.items c.prepare.ensures.variables c.prepare.ensures.lists
+    (subst (λ (o : HoodView). HoldsJust v o.cells) (sym c.self.view_is) k)
+
+pub invariant_of-self-2 : goal.invariant_of-self-2
+invariant_of-self-2 c =
+    let h = c.self.inside in let i = c.self.invariant in
+    IsPlaced-same h.centre h.at h.cells.items c.prepare.new.self.items i c.prepare.ensures.variables
+    (Covers-same h.centre h.cells.items c.prepare.new.self.items c.prepare.ensures.variables c.prepare.ensures.lists i.3)
