@@ -7,7 +7,7 @@
 //!
 //! A lookup outlives the entries at its variable: a bucket may have clauses that are gone, and a clause that it names is read in the
 //! cell. The memory of the buckets is kept for the lookups to come.
-ghost use Rattle.std.specs.Prelude.{◌≡◌, ◌<◌, ◌≤◌, ◌++◌, ◌∷◌, [], length, IfOk, OnOk, IfSome, IfNone, Some, IsTrue, IsFalse, ℕ, List};
+ghost use Rattle.std.specs.Prelude.{◌≡◌, ◌<◌, ◌≤◌, ◌++◌, ◌∷◌, [], length, OnOk, IfSome, IfNone, Some, IsTrue, IsFalse, ℕ, List};
 ghost use Rattle.std.specs.List.{find, Contains};
 ghost use Rattle.std.specs.Option.{option_map};
 ghost use Rattle.cp_logic.specs.declared.named.Named.{Named};
@@ -162,12 +162,13 @@ impl Model for Bucket {
 }
 
 impl Bucket {
-    fn new(alloc: Global) -> Result<Bucket, AllocError>
-        ensures { IfOk result (λ b. b ≡ []) }
+    // No clause. It takes no memory.
+    fn new(alloc: Global) -> Bucket
+        ensures { result ≡ [] }
     {
-        Ok(Bucket {
+        Bucket {
             clauses: Vec::new(alloc),
-        })
+        }
     }
 
     fn as_slice(&self) -> &[Signed]
@@ -195,7 +196,8 @@ impl Bucket {
     }
 }
 
-// The bucket of the literal, of so many.
+// The bucket of the literal, of so many. The code is multiplied first: the variables of an encoded problem often stand at equal distances,
+// and where the count shares a factor with that, the remainders of their codes would be few.
 fn place(lit: Lit, count: usize) -> usize
     requires { 0 < count }
     ensures value { result ≡ place lit count }
@@ -260,7 +262,7 @@ fn add_buckets(alloc: Global, buckets: &mut Vec<Bucket>, count: usize) -> Result
     ensures { OnOk result (count ≤ length buckets.new.items) }
 {
     for _k in buckets.len()..count {
-        buckets.push(Bucket::new(alloc)?)?;
+        buckets.push(Bucket::new(alloc))?;
     }
     Ok(())
 }
