@@ -1,5 +1,5 @@
 -- Lookups cover the clauses that they were made of and those that are left of them, and what a lookup gives is the first that is met.
-use Rattle.std.proofs.Common.{◌≡◌, ℕ, ◌<◌, ◌≤◌, ◌%◌, Bool, true, false, cond, not, List, [], ◌∷◌, ◌++◌, length, take, get_or, slice_index_or, ◌+◌, Option, Some, None, refl, sym, ◌∙◌, ap, subst, inl, inr, arith}
+use Rattle.std.proofs.Common.{◌≡◌, ℕ, ◌<◌, ◌≤◌, ◌*◌, ◌/◌, ◌^◌, Bool, true, false, cond, not, List, [], ◌∷◌, ◌++◌, length, take, get_or, slice_index_or, ◌+◌, Option, Some, None, refl, sym, ◌∙◌, ap, subst, inl, inr, arith}
 use Rattle.std.specs.Prelude.{◌==◌, ◌⊎◌, nat_le, slice_set, IsTrue, IfNone}
 use Rattle.std.specs.List.{Contains, find}
 use Rattle.std.proofs.lemmas.Bool.{and_parts, false≢true, false_from_ne_true, cases_eq}
@@ -17,7 +17,7 @@ use Rattle.cp_logic.proofs.Locals.{find_none}
 use Rattle.cp_occ.specs.Cells.{from_number}
 use Rattle.cp_find.specs.declared.wanted.Signed.{Signed}
 use Rattle.cp_find.specs.Finds.{subsumes}
-use Rattle.cp_find.specs.Lookups.{LookupView, signed, AreListed, Keeps, Covers, Serves, IsMet, is_up_to, IsBest}
+use Rattle.cp_find.specs.Lookups.{LookupView, signed, place, AreListed, Keeps, Covers, Serves, IsMet, is_up_to, IsBest}
 
 -- ---- what is covered
 
@@ -30,7 +30,7 @@ pub covers-within : (cs ds : List Named) (lookup : LookupView) → ((c : Named) 
 covers-within cs ds lookup h p = λ c i. p c (h c i)
 
 -- the bucket of a literal has the clauses with the literal
-pub bucket-has : (lookup : LookupView) (bucket : List Signed) (k lit : ℕ) → bucket ≡ slice_index_or lookup.buckets k bucket → k ≡ lit % lookup.count → 0 < lookup.count
+pub bucket-has : (lookup : LookupView) (bucket : List Signed) (k lit : ℕ) → bucket ≡ slice_index_or lookup.buckets k bucket → k ≡ place lit lookup.count → 0 < lookup.count
     → (cs : List Named) (c : Named) → Covers cs lookup → Contains cs c → Contains c.clause lit → Contains bucket (signed c)
 bucket-has lookup bucket k lit e q p cs c covers i j =
     subst (λ (z : List Signed). Contains z (signed c)) (sym (e ∙ ap (λ n. slice_index_or lookup.buckets n bucket) q)) (covers c i p lit bucket j)
@@ -158,23 +158,26 @@ same_clause d n ls e q =
 
 -- ---- buckets that are filled
 
+place-below : (l count : ℕ) → 0 < count → place l count < count
+place-below l count p = mod_below (l * 2654435769 / 2 ^ 16) count p
+
 -- a bucket with one clause more
 pub listed-more : (count : ℕ) (old new : List (List Signed)) (ls : List ℕ) (l : ℕ) (c : Signed) → 0 < count → count ≤ length old → Keeps old new
-    → ((d : List Signed) → Contains (slice_index_or new (l % count) d) c) → AreListed count old ls c → AreListed count new (ls ++ l ∷ []) c
+    → ((d : List Signed) → Contains (slice_index_or new (place l count) d) c) → AreListed count old ls c → AreListed count new (ls ++ l ∷ []) c
 listed-more count old new ls l c p w keeps here h m d i = elim (Contains-append_cases ls (l ∷ []) m i) [
-  | inl j ↦ keeps (m % count) d c (below m) (h m d j)
+  | inl j ↦ keeps (place m count) d c (below m) (h m d j)
   | inr j ↦ elim (in_cases m l [] j) [
-    | inl e ↦ subst (λ z. Contains (slice_index_or new (z % count) d) c) e (here d)
+    | inl e ↦ subst (λ z. Contains (slice_index_or new (place z count) d) c) e (here d)
     | inr k ↦ absurd (none_in m k)
   ]
 ]
   where
-    below : (m : ℕ) → m % count < length old
-    below m = let less : m % count < count = mod_below m count p in omega (arith, less, w)
+    below : (m : ℕ) → place m count < length old
+    below m = let less : place m count < count = place-below m count p in omega (arith, less, w)
 
 -- what was listed stays so
 pub listed-kept : (count : ℕ) (old new : List (List Signed)) (ls : List ℕ) (c : Signed) → 0 < count → count ≤ length old → Keeps old new → AreListed count old ls c → AreListed count new ls c
-listed-kept count old new ls c p w keeps h m d i = keeps (m % count) d c (let less : m % count < count = mod_below m count p in omega (arith, less, w)) (h m d i)
+listed-kept count old new ls c p w keeps h m d i = keeps (place m count) d c (let less : place m count < count = place-below m count p in omega (arith, less, w)) (h m d i)
 
 -- a bucket is written that keeps what it has
 pub put-keeps : (old : List (List Signed)) (k : ℕ) (before after : List Signed) → k < length old → before ≡ slice_index_or old k before
@@ -190,8 +193,8 @@ pub put-has : (old : List (List Signed)) (k m : ℕ) (after : List Signed) (c : 
 put-has old k m after c w e i d = subst (λ (z : List Signed). Contains z c) (sym (ap (λ n. slice_index_or (slice_set old k after) n d) (sym e) ∙ get_or-set_same old k after d w)) i
 
 -- where there is one bucket, it is that of each literal
-pub first_alone : (l : ℕ) → 0 ≡ l % 1
-first_alone l = let less : l % 1 < 1 = mod_below l 1 (let one : 0 < 1 = omega arith in one) in omega (arith, less)
+pub first_alone : (l : ℕ) → 0 ≡ place l 1
+first_alone l = let less : place l 1 < 1 = place-below l 1 (let one : 0 < 1 = omega arith in one) in omega (arith, less)
 
 -- one literal more is taken
 pub take-item : (xs : List ℕ) (i x : ℕ) → i < length xs → x ≡ get_or xs i x → take (i + 1) xs ≡ take i xs ++ x ∷ []

@@ -1,5 +1,5 @@
--- Lookups: clauses in buckets by the remainders of their literals' codes, each by its number and its signature.
-use Rattle.std.specs.Prelude.{◌≡◌, ℕ, ◌≤◌, ◌<◌, ◌%◌, nat_le, Bool, false, Option, Some, None, List, length, slice_index_or, IsTrue, IfSome}
+-- Lookups: clauses in buckets by their literals, each by its number and its signature.
+use Rattle.std.specs.Prelude.{ℕ, ◌≤◌, ◌<◌, ◌*◌, ◌/◌, ◌^◌, ◌%◌, nat_le, Bool, false, Option, Some, None, List, length, slice_index_or, IsTrue, IfSome}
 use Rattle.std.specs.List.{Contains}
 use Rattle.cp_logic.specs.declared.named.Named.{Named}
 use Rattle.cp_find.specs.declared.wanted.Signed.{Signed}
@@ -15,9 +15,13 @@ pub record LookupView : Type 0 where
 abbrev pub signed : Named → Signed
 signed c = record { number = c.number; bits = signature c.clause }
 
+-- which of so many buckets a literal has
+abbrev pub place : ℕ → ℕ → ℕ
+place l count = (l * 2654435769 / 2 ^ 16) % count
+
 -- of the first so many buckets those of these literals have the clause
 abbrev pub AreListed : ℕ → List (List Signed) → List ℕ → Signed → Type 0
-AreListed count buckets ls c = (l : ℕ) (d : List Signed) → Contains ls l → Contains (slice_index_or buckets (l % count) d) c
+AreListed count buckets ls c = (l : ℕ) (d : List Signed) → Contains ls l → Contains (slice_index_or buckets (place l count) d) c
 
 -- each bucket keeps what it has
 abbrev pub Keeps : List (List Signed) → List (List Signed) → Type 0

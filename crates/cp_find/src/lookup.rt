@@ -7,7 +7,7 @@
 //!
 //! A lookup outlives the entries at its variable: a bucket may have clauses that are gone, and a clause that it names is read in the
 //! cell. The memory of the buckets is kept for the lookups to come.
-ghost use Rattle.std.specs.Prelude.{◌≡◌, ◌<◌, ◌≤◌, ◌%◌, ◌++◌, ◌∷◌, [], length, IfOk, OnOk, IfSome, IfNone, Some, IsTrue, IsFalse, ℕ, List};
+ghost use Rattle.std.specs.Prelude.{◌≡◌, ◌<◌, ◌≤◌, ◌++◌, ◌∷◌, [], length, OnOk, IfSome, IfNone, Some, IsTrue, IsFalse, ℕ, List};
 ghost use Rattle.std.specs.List.{find, Contains};
 ghost use Rattle.std.specs.Option.{option_map};
 ghost use Rattle.cp_logic.specs.declared.named.Named.{Named};
@@ -15,7 +15,7 @@ ghost use Rattle.cp_logic.specs.Items.{named_item};
 ghost use Rattle.cp_occ.specs.Cells.{from_number};
 ghost use Rattle.cp_find.specs.declared.wanted.Signed.{Signed};
 ghost use Rattle.cp_find.specs.Finds.{subsumes};
-ghost use Rattle.cp_find.specs.Lookups.{AreListed, Keeps, Covers, signed, Serves, IsMet, IsBest, is_up_to};
+ghost use Rattle.cp_find.specs.Lookups.{AreListed, Keeps, Covers, signed, place, Serves, IsMet, IsBest, is_up_to};
 
 use crate::wanted::{Signed, Wanted};
 use cp_logic::{Clause, Lit};
@@ -23,17 +23,20 @@ use cp_occ::{Cell, CellIter};
 use std::alloc::{AllocError, Global};
 use std::marker::Model;
 
-// So many clauses stand in a bucket on average.
-const PER_BUCKET: usize = 8;
-
-// A bucket has room for so many clauses before it grows.
-const ROOM: usize = 12;
+// So many entries stand in a bucket on average. With fewer the buckets take more memory, and filling them costs more than it saves.
+const PER_BUCKET: usize = 4;
 
 // Of so few clauses the signatures are compared all, in one bucket, which costs less than to fill buckets and to choose among them.
 const FEW: usize = 16;
 
 // The same is so where there are at most so many times as many clauses as literals in one of them.
 const MOST_TIMES: usize = 8;
+
+// But where the clauses are longer than this on average, most bits of their signatures are set, which then exclude little.
+const SHORT: usize = 16;
+
+// So few candidates are compared in the time that it takes to look for a shorter bucket.
+const ENOUGH: usize = 4;
 
 /// Buckets of a cell's clauses, of which the first `count` are in use. With none the cell itself is looked through.
 #[derive(Drop)]
@@ -123,6 +126,9 @@ impl Lookup {
             return Some(shortest);
         }
         for lit in others {
+            if shortest.len() <= ENOUGH {
+                return Some(shortest);
+            }
             let bucket = self.bucket(*lit);
             if bucket.len() < shortest.len() {
                 shortest = bucket;
@@ -156,11 +162,13 @@ impl Model for Bucket {
 }
 
 impl Bucket {
-    fn new(alloc: Global) -> Result<Bucket, AllocError>
-        ensures { IfOk result (λ b. b ≡ []) }
+    // No clause. It takes no memory.
+    fn new(alloc: Global) -> Bucket
+        ensures { result ≡ [] }
     {
-        let clauses = Vec::with_capacity(alloc, ROOM)?;
-        Ok(Bucket { clauses })
+        Bucket {
+            clauses: Vec::new(alloc),
+        }
     }
 
     fn as_slice(&self) -> &[Signed]
@@ -188,13 +196,15 @@ impl Bucket {
     }
 }
 
-// The bucket of the literal, of so many.
+// The bucket of the literal, of so many. The code is multiplied first: the variables of an encoded problem often stand at equal distances,
+// and where the count shares a factor with that, the remainders of their codes would be few.
 fn place(lit: Lit, count: usize) -> usize
     requires { 0 < count }
-    ensures value { result ≡ lit % count }
+    ensures value { result ≡ place lit count }
     ensures within { result < count }
 {
-    lit.code() as usize % count
+    let spread = u64::from(lit.code()) * 2_654_435_769;
+    (spread >> 16) as usize % count
 }
 
 // How many buckets to fill for the cell's clauses.
@@ -206,7 +216,7 @@ fn bucket_count(cell: &Cell) -> usize
         return 1;
     }
     let literals = literal_count(cell);
-    if clauses / MOST_TIMES <= literals / clauses {
+    if literals / clauses <= SHORT && clauses / MOST_TIMES <= literals / clauses {
         return 1;
     }
     (literals / PER_BUCKET).max(1)
@@ -252,7 +262,7 @@ fn add_buckets(alloc: Global, buckets: &mut Vec<Bucket>, count: usize) -> Result
     ensures { OnOk result (count ≤ length buckets.new.items) }
 {
     for _k in buckets.len()..count {
-        buckets.push(Bucket::new(alloc)?)?;
+        buckets.push(Bucket::new(alloc))?;
     }
     Ok(())
 }

@@ -1,9 +1,9 @@
-use Rattle.std.proofs.Common.{◌≡◌, ◌<◌, ◌≤◌, ℕ, List, length, take, get_or, slice_index_or, ◌%◌, sym, ap, ◌∙◌, subst, arith}
+use Rattle.std.proofs.Common.{◌≡◌, ◌<◌, ◌≤◌, ℕ, List, length, take, get_or, slice_index_or, sym, ◌∙◌, subst, arith}
 use Rattle.std.specs.Prelude.{slice_set}
 use Rattle.std.specs.List.{Contains}
 use Rattle.std.proofs.lemmas.List.{length-set, take_all}
 use Rattle.cp_find.specs.declared.wanted.Signed.{Signed}
-use Rattle.cp_find.specs.Lookups.{AreListed, Keeps}
+use Rattle.cp_find.specs.Lookups.{AreListed, Keeps, place}
 use Rattle.cp_find.proofs.Lookups.{put-keeps, put-has, take-item, listed-more}
 use Rattle.cp_find.proofs.lookup.enter_each.Goals as goal
 
@@ -29,5 +29,5 @@ pub returns-clause-entered : goal.returns-clause-entered
 returns-clause-entered c = λ l d i.
     let clause : List ℕ = c.args.clause.now in let ls = c.lits-lit-items.ensures.value in let end = c.loop-lit-test.false in
     let done : length clause ≤ c.loop-lit.lit-index = subst (λ (z : List ℕ). length z ≤ c.loop-lit.lit-index) ls end in
-    subst (λ (e : Signed). Contains (slice_index_or c.loop-lit.buckets.items (l % c.args.count) d) e) c.new-entry.ensures
+    subst (λ (e : Signed). Contains (slice_index_or c.loop-lit.buckets.items (place l c.args.count) d) e) c.new-entry.ensures
     (c.loop-lit.invariant.entered l d (subst (λ (z : List ℕ). Contains z l) (sym (take_all c.loop-lit.lit-index clause done)) i))

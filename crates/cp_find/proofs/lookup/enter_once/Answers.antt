@@ -1,6 +1,7 @@
-use Rattle.std.proofs.Common.{◌≡◌, ◌%◌, subst}
+use Rattle.std.proofs.Common.{subst}
 use Rattle.std.specs.List.{Contains}
 use Rattle.std.proofs.lemmas.List.{length-set}
+use Rattle.cp_find.specs.Lookups.{place}
 use Rattle.cp_find.proofs.Lookups.{put-keeps, put-has, first_alone}
 use Rattle.cp_find.proofs.lookup.enter_once.Goals as goal
 
@@ -12,4 +13,4 @@ returns-clause-kept c = put-keeps c.args.buckets.now.items 0 c.index_mut.result.
 
 pub returns-clause-entered : goal.returns-clause-entered
 returns-clause-entered c = λ l d i.
-    put-has c.args.buckets.now.items 0 (l % 1) c.put.new.self _ c.requires (first_alone l) (subst (Contains c.put.new.self) c.new-entry.ensures c.in_ok-put.ensures.has) d
+    put-has c.args.buckets.now.items 0 (place l 1) c.put.new.self _ c.requires (first_alone l) (subst (Contains c.put.new.self) c.new-entry.ensures c.in_ok-put.ensures.has) d

@@ -1,4 +1,4 @@
-use Rattle.std.proofs.Common.{◌≤◌, ◌∷◌, List, length, subst, inl, inr, arith}
+use Rattle.std.proofs.Common.{List, subst, inl, inr, arith}
 use Rattle.std.specs.List.{Contains}
 use Rattle.std.specs.Prelude.{◌⊎◌}
 use Rattle.cp_logic.specs.declared.named.Named.{Named}

@@ -1,7 +1,5 @@
-use Rattle.std.proofs.Common.{◌∙◌, Option, Some, None, sym, ap}
-use Rattle.std.specs.Prelude.{◌≡◌}
+use Rattle.std.proofs.Common.{◌∙◌, sym, ap}
 use Rattle.std.proofs.lemmas.Option.{none-some, same_Some}
-use Rattle.cp_logic.specs.declared.named.Named.{Named}
 use Rattle.cp_find.specs.declared.wanted.Signed.{Signed}
 use Rattle.cp_find.specs.Finds.{subsumes}
 use Rattle.cp_find.proofs.Lookups.{only-none, same_clause}

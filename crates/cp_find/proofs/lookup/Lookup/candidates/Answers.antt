@@ -1,4 +1,4 @@
-use Rattle.std.proofs.Common.{List, ℕ, ◌≡◌, ◌∷◌, ◌∙◌, sym, ap, subst, refl}
+use Rattle.std.proofs.Common.{List, ℕ, ◌∙◌, sym, subst, refl}
 use Rattle.std.specs.List.{Contains}
 use Rattle.cp_logic.proofs.Members.{in_here, in_later}
 use Rattle.cp_find.proofs.Lookups.{serves-from}
