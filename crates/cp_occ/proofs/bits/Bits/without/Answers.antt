@@ -1,4 +1,3 @@
-use Rattle.std.proofs.Common.{ap}
 use Rattle.cp_logic.proofs.Members.{contains-in}
 use Rattle.cp_occ.proofs.SharedBits.{alone-without, shared-without}
 use Rattle.cp_occ.proofs.bits.Bits.without.Goals as goal
