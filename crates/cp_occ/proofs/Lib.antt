@@ -5,3 +5,4 @@ pub mod Changed
 pub mod Posted
 mod Searches
 pub mod Sided
+mod SharedBits

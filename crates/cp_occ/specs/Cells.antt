@@ -3,7 +3,8 @@ use Rattle.std.specs.Prelude.{◌≡◌, ℕ, Bool, ◌+◌, ◌<◌, ◌≤◌,
 use Rattle.std.specs.List.{All, filter}
 use Rattle.cp_logic.specs.declared.named.Named.{Named}
 use Rattle.cp_logic.specs.Literals.{variable_of}
-use Rattle.cp_logic.specs.Clauses.{contains, has_variable, is_tautology, IsAscending}
+use Rattle.cp_logic.specs.Clauses.{contains, has_variable, is_tautology, without, IsAscending}
+use Rattle.cp_logic.specs.Signatures.{signature}
 use Rattle.cp_logic.specs.Formulas.{numbers_of, occurrences}
 
 -- spare is for how many further clauses there is room
@@ -17,10 +18,11 @@ pub record IsOf (x : ℕ) (c : Named) : Type 0 where
   pub set : IsAscending c.clause
   pub has : IsTrue (has_variable x c.clause)
 
--- what an occurrence keeps of a clause: a literal that it has, and whether it is a tautology
-pub record IsSided (clause : List ℕ) (literal : ℕ) (tautology : Bool) : Type 0 where
+-- what an occurrence keeps of a clause: a literal that it has, whether it is a tautology, and its signature without that literal
+pub record IsSided (clause : List ℕ) (literal : ℕ) (tautology : Bool) (others : ℕ) : Type 0 where
   pub has : IsTrue (contains clause literal)
   pub told : tautology ≡ is_tautology clause
+  pub bits : others ≡ signature (without clause literal)
 
 -- the clauses that are tautologies
 abbrev pub tautologies_of : List Named → List Named

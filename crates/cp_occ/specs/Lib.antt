@@ -2,3 +2,4 @@ pub mod Cells
 pub mod Lending
 pub mod Changes
 pub mod Silence
+pub mod Bits

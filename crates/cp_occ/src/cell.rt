@@ -112,6 +112,13 @@ impl Cell {
         }
     }
 
+    /// What is kept of the clauses, by ascending number.
+    pub fn occurrences(&self) -> &[Occurrence]
+        ensures { result.now ≡ self.now.clauses }
+    {
+        self.occurrences.as_slice()
+    }
+
     /// The clauses whose numbers are this one or above it, with their numbers, by ascending number. The first is found by a binary search.
     pub fn iter_from(&self, number: u64) -> CellIter<'_>
         ensures { result ≡ from_number number self.now.clauses }

@@ -4,6 +4,7 @@
 //! in each cell what `specs/Changes` says of the entry (`lists_after`); all its memory is taken by `prepare`.
 #![tactic(auto)]
 
+mod bits;
 mod cell;
 mod cells;
 mod changes;
@@ -22,6 +23,7 @@ pub use cells::Cells;
 pub use changes::Prepared;
 pub use iter::{CellIter, LiteralIter};
 pub use lent::Lent;
+pub use occurrence::Occurrence;
 pub use place::Place;
 
 // Places and cells may be shared by threads and moved between them.

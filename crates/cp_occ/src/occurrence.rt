@@ -1,20 +1,22 @@
 //! Occurrences: what a cell keeps of each clause.
-ghost use Rattle.std.specs.Prelude.{◌≡◌, ◌≤◌, IsTrue};
+ghost use Rattle.std.specs.Prelude.{◌≡◌, ◌≤◌, false, IsTrue};
 ghost use Rattle.cp_logic.specs.Literals.{positive};
-ghost use Rattle.cp_logic.specs.Clauses.{contains, has_variable, is_tautology, IsAscending};
+ghost use Rattle.cp_logic.specs.Clauses.{contains, has_variable, is_tautology, resolvent, IsAscending};
 
 use crate::place::Place;
-use cp_logic::{Clause, Lit};
+use cp_logic::{Clause, Lit, opposite};
 use std::marker::Model;
 
 /// A clause with its number, seen as the numbered clause.
 ///
 /// It keeps a literal that the clause has, and whether the clause is a tautology. If it isn't, it hasn't the literal's negation. So which
-/// clauses have a literal of the cell's variable, and which are tautologies, is told without reading a clause. It takes 24 bytes.
+/// clauses have a literal of the cell's variable, and which are tautologies, is told without reading a clause. It also keeps the
+/// signature of the clause without that literal, which tells of most pairs of clauses that they clash at no other variable.
 #[derive(Drop)]
-pub(crate) struct Occurrence {
+pub struct Occurrence {
     number: u64,
     clause: Clause,
+    bits: u64,
     literal: Lit,
     tautology: bool,
 }
@@ -27,7 +29,7 @@ impl Model for Occurrence {
 
     ghost view = { λ o. record { number = o.number; clause = o.clause } };
 
-    ghost invariant = { λ o. IsSided o.clause o.literal o.tautology };
+    ghost invariant = { λ o. IsSided o.clause o.literal o.tautology o.bits };
 }
 
 impl Occurrence {
@@ -40,21 +42,25 @@ impl Occurrence {
     {
         let literal = literal_at(place.clause(), var);
         let tautology = place.is_tautology();
+        let bits = place.bits().without(literal);
         Occurrence {
             number,
             clause: place.into_clause(),
+            bits,
             literal,
             tautology,
         }
     }
 
-    pub(crate) fn number(&self) -> u64
+    /// The number of the clause.
+    pub fn number(&self) -> u64
         ensures { result ≡ self.now.number }
     {
         self.number
     }
 
-    pub(crate) fn clause(&self) -> &Clause
+    /// The clause.
+    pub fn clause(&self) -> &Clause
         ensures { result.now ≡ self.now.clause }
     {
         &self.clause
@@ -68,7 +74,7 @@ impl Occurrence {
     }
 
     /// Whether the clause has the literal. No literal of it is read, unless it is a tautology or the literal is of another variable.
-    pub(crate) fn has(&self, lit: Lit) -> bool
+    pub fn has(&self, lit: Lit) -> bool
         ensures { result ≡ contains self.now.clause lit }
     {
         if self.literal == lit {
@@ -78,6 +84,27 @@ impl Occurrence {
             return false;
         }
         self.clause.contains(lit)
+    }
+
+    /// Whether the resolvent of this clause on the literal and of another on its negation is a tautology. The bits exclude most
+    /// pairs, and then no literal is read.
+    pub fn resolves_to_tautology(&self, other: &Occurrence, lit: Lit) -> bool
+        ensures { result ≡ is_tautology (resolvent lit self.now.clause other.now.clause) }
+    {
+        !self.is_apart(other, lit) && self.clause.resolves_to_tautology(&other.clause, lit)
+    }
+
+    // Whether the bits tell that the resolvent is no tautology.
+    fn is_apart(&self, other: &Occurrence, lit: Lit) -> bool
+        ensures { IsTrue result → is_tautology (resolvent lit self.now.clause other.now.clause) ≡ false }
+    {
+        if self.tautology || other.tautology {
+            return false;
+        }
+        if self.literal != lit || other.literal != lit.negated() {
+            return false;
+        }
+        opposite(self.bits) & other.bits == 0
     }
 
     pub(crate) fn into_place(self) -> Place

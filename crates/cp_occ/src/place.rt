@@ -1,7 +1,9 @@
 //! Places: clauses that are shared and never change.
-ghost use Rattle.std.specs.Prelude.{◌≡◌, IfOk, IsOk};
+ghost use Rattle.std.specs.Prelude.{◌≡◌, IfOk, IsOk, IfSome};
 ghost use Rattle.cp_logic.specs.Clauses.{is_tautology};
+ghost use Rattle.cp_occ.specs.Bits.{AreBits};
 
+use crate::bits::Bits;
 use cp_logic::Clause;
 use std::alloc::{AllocError, Global};
 use std::marker::Model;
@@ -9,22 +11,24 @@ use std::marker::Model;
 /// A shared clause that never changes, seen as the clause. The literals go with their last place or clause.
 ///
 /// A clause's literals stand behind std's `Arc`, so a place is a clause whose calls are those that share. Whether the clause is a
-/// tautology is found once, at its first place.
+/// tautology, and the bits of its literals, are found once, at its first place.
 #[derive(Drop)]
 pub struct Place {
     shared: Clause,
     tautology: bool,
+    bits: Option<Bits>,
 }
 
 impl Model for Place {
-    ghost use Rattle.std.specs.Prelude.{◌≡◌, ℕ, List};
+    ghost use Rattle.std.specs.Prelude.{◌≡◌, ℕ, List, IfSome};
     ghost use Rattle.cp_logic.specs.Clauses.{is_tautology};
+    ghost use Rattle.cp_occ.specs.Bits.{AreBits};
 
     ghost Value = { List ℕ };
 
     ghost view = { λ p. p.shared };
 
-    ghost invariant = { λ p. p.tautology ≡ is_tautology p.shared };
+    ghost invariant = { λ p. (p.tautology ≡ is_tautology p.shared) × IfSome p.bits (AreBits p.shared) };
 }
 
 impl Place {
@@ -34,9 +38,11 @@ impl Place {
         ensures made { IsOk result }
     {
         let tautology = clause.is_tautology();
+        let bits = Some(Bits::of(clause.lits()));
         Ok(Place {
             shared: clause,
             tautology,
+            bits,
         })
     }
 
@@ -55,6 +61,7 @@ impl Place {
         Ok(Place {
             shared,
             tautology: self.tautology,
+            bits: self.bits,
         })
     }
 
@@ -63,7 +70,21 @@ impl Place {
         requires { tautology ≡ is_tautology shared }
         ensures { result ≡ shared }
     {
-        Place { shared, tautology }
+        Place {
+            shared,
+            tautology,
+            bits: None,
+        }
+    }
+
+    // The bits of the clause. They are known, unless a cell gave the place back: then the clause is read.
+    pub(crate) fn bits(&self) -> Bits
+        ensures { AreBits self.now result }
+    {
+        match self.bits {
+            Some(bits) => bits,
+            None => Bits::of(self.shared.lits()),
+        }
     }
 
     // Whether the clause is a tautology. No literal is read.

@@ -1,9 +1,9 @@
-use Rattle.std.proofs.Common.{◌≡◌}
+use Rattle.std.proofs.Common.{◌≡◌, drop}
 use Rattle.std.specs.List.{find}
 use Rattle.cp_blocked.specs.Finds.{is_blocked_at}
 use Rattle.cp_blocked.proofs.blocking.first_blocked.Given as goal
 
 -- the first blocked clause is the first of those that are left
-abbrev pub invariant-loop-number : goal.invariant-loop-number
-invariant-loop-number l =
-    find (is_blocked_at l.cell.variable l.cell.clauses) l.number-iterator ≡ find (is_blocked_at l.cell.variable l.cell.clauses) l.cell.clauses
+abbrev pub invariant-loop-first : goal.invariant-loop-first
+invariant-loop-first l =
+    find (is_blocked_at l.cell.variable l.cell.clauses) (drop l.first-index l.all) ≡ find (is_blocked_at l.cell.variable l.cell.clauses) l.cell.clauses
