@@ -54,17 +54,14 @@ pub(crate) fn take_out<T>(nodes: &mut Vec<Node<T>>, at: u32, free: u32) -> (T, u
         prev: END,
         next: free,
     };
-    match mem::replace(&mut nodes[at as usize], freed) {
-        Node {
-            item: Some(item),
-            prev,
-            next,
-        } => (item, prev, next),
-        Node {
-            item: None,
-            prev: _,
-            next: _,
-        } => unreachable!(),
+    let Node {
+        item: was,
+        prev,
+        next,
+    } = mem::replace(&mut nodes[at as usize], freed);
+    match was {
+        Some(item) => (item, prev, next),
+        None => unreachable!(),
     }
 }
 
