@@ -1,3 +1,4 @@
 pub mod lemmas
 mod NodeFacts
 mod Paths
+mod Holding

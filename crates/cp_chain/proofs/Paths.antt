@@ -1,10 +1,10 @@
 -- Paths: how the links of the nodes go along a list of entries, and what a write does to that.
-use Rattle.std.proofs.Common.{◌≡◌, ◌≢◌, ◌<◌, ◌≤◌, ◌+◌, ◌⊎◌, ℕ, zero, suc, Bool, true, false, cond, eqb, List, [], ◌∷◌, ◌++◌, length, map, set, slice_get, Option, Some, None, IsSome, refl, sym, ap, subst, ◌∙◌, inl, inr, arith, eq-eqb, ne_eqb}
+use Rattle.std.proofs.Common.{◌≡◌, ◌≢◌, ◌<◌, ◌≤◌, ◌+◌, ◌-◌, ◌⊎◌, ℕ, zero, suc, Bool, true, false, cond, eqb, List, [], ◌∷◌, ◌++◌, length, map, set, slice_get, Option, Some, None, IsSome, refl, sym, ap, subst, ◌∙◌, inl, inr, arith, eq-eqb, ne_eqb}
 use Rattle.std.proofs.lemmas.Bool.{cases_eq, true≢false, false≢true}
 use Rattle.std.proofs.lemmas.Option.{slice_get_within}
 use Rattle.cp_chain.specs.declared.node.Node.{Node}
 use Rattle.cp_chain.specs.Chains.{Entry, Each, AreDistinct, handles, find_item, HasHandle, first_handle, next_handle, last_handle, last_or, prev_from}
-use Rattle.cp_chain.specs.Nodes.{node, with_next, with_prev, item_in, link_handle, IsPath, AreFree, walk, entry_then}
+use Rattle.cp_chain.specs.Nodes.{node, with_next, with_prev, item_in, link_handle, IsPath, AreFree, IsAhead, walk, entry_then}
 use Rattle.cp_chain.proofs.lemmas.Apart.{Each-map}
 use Rattle.cp_chain.proofs.lemmas.Entries.{found-here, found-later}
 use Rattle.cp_chain.proofs.NodeFacts.{item-at, with_next-same, with_next-other, with_next-past, with_next-length, with_prev-same, with_prev-other, with_prev-past}
@@ -158,6 +158,10 @@ module _ {T : Type 0} where
   free-frame ns ms f [] s p = tt
   free-frame ns ms f (g ∷ gs) s p = (p.0, p.1, p.2, s.0 ∙ p.3, free-frame ns ms p.1 gs s.1 p.4)
 
+  pub free-low : (ns : List (Node T)) (f : ℕ) (gs : List ℕ) → AreFree ns f gs → Each (λ k. k < length ns) gs
+  free-low ns f [] p = tt
+  free-low ns f (g ∷ gs) p = (slice_get_within ns g _ p.3, free-low ns p.1 gs p.4)
+
   -- a number that is no freed node's: that of a node with an item, or past the nodes
   pub record IsTaken (ns : List (Node T)) (k : ℕ) : Type 0 where
     pub taken : (length ns ≤ k) ⊎ ((x : T) × (item_in ns k ≡ Some x))
@@ -172,3 +176,35 @@ module _ {T : Type 0} where
           let none : item_in ns g ≡ None = item-at ns g _ p.3 in
           let clash : None ≡ Some some.0 = sym none ∙ ap (item_in ns) q ∙ some.1 in
           absurd (cc)
+
+  -- ---- an iterator's step
+
+  pub record Step (ns : List (Node T)) (at m : ℕ) : Type 0 where
+    pub next : Node T
+    pub item : T
+    pub here : slice_get ns at ≡ Some next
+    pub keeps : next.item ≡ Some item
+    pub rest : IsAhead ns next.next m
+    pub list : walk ns (suc m) at ≡ record { handle = at; item = item } ∷ walk ns m next.next
+
+  step-from : (ns : List (Node T)) (at m before last : ℕ) (es : List (Entry T)) → IsPath ns before at es last no_link → length es ≡ suc m → Step ns at m
+  step-from ns at m before last [] p q = absurd (omega arith)
+  step-from ns at m before last (e ∷ es) p q =
+      let n : Node T = node (Some e.item) before p.0 in
+      let here : slice_get ns at ≡ Some n = ap (slice_get ns) p.1 ∙ p.2 in
+      let len : length es ≡ m = omega arith in
+      let w : walk ns m p.0 ≡ es = subst (λ k. walk ns k p.0 ≡ es) len (walk-path ns es e.handle p.0 last no_link p.3) in
+      record {
+        next = n;
+        item = e.item;
+        here = here;
+        keeps = refl;
+        rest = record { before = e.handle; last = last; path = subst (λ xs. IsPath ns e.handle p.0 xs last no_link) (sym w) p.3; len = ap length w ∙ len };
+        list = ap (λ o. entry_then o at (walk ns m)) here;
+      }
+
+  pub ahead-step : (ns : List (Node T)) (at left : ℕ) → IsAhead ns at left → 0 < left → Step ns at (left - 1)
+  ahead-step ns at left a l = step-from ns at (left - 1) a.before a.last (walk ns left at) a.path (a.len ∙ omega arith)
+
+  pub ahead-list : (ns : List (Node T)) (at left : ℕ) → 0 < left → walk ns left at ≡ walk ns (suc (left - 1)) at
+  ahead-list ns at left l = let q : left ≡ suc (left - 1) = omega arith in ap (λ n. walk ns n at) q

@@ -42,12 +42,10 @@ impl<'a, T> Iterator for ChainIter<'a, T> {
             return None;
         }
         let at = self.at;
-        let node = &self.nodes[at as usize];
+        let node = self.nodes.get(at as usize)?;
+        let item = node.item.as_ref()?;
         self.at = node.next;
         self.left -= 1;
-        match &node.item {
-            Some(item) => Some((Handle::new(at), item)),
-            None => unreachable!(),
-        }
+        Some((Handle::new(at), item))
     }
 }

@@ -36,6 +36,10 @@ module _ {T : Type 0} where
   found-beside [] e ys h n = found-later e ys h n
   found-beside (x ∷ xs) e ys h n = ap (λ o. cond (eqb x.handle h) (Some x.item) o) (found-beside xs e ys h n)
 
+  pub found-beside-end : (xs : List (Entry T)) (e : Entry T) (h : ℕ) → e.handle ≢ h → find_item (xs ++ e ∷ []) h ≡ find_item xs h
+  found-beside-end [] e h n = found-later e [] h n
+  found-beside-end (x ∷ xs) e h n = ap (λ o. cond (eqb x.handle h) (Some x.item) o) (found-beside-end xs e h n)
+
   -- a list with an entry, cut there
   pub record Cut (es : List (Entry T)) (h : ℕ) (x : T) : Type 0 where
     pub front : List (Entry T)
