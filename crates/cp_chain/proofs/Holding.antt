@@ -189,3 +189,41 @@ module _ {T : Type 0} where
         total = sym (ap length e);
         few = let l = ap length e in omega arith;
       }
+
+  pub read-any : (ns : List (Node T)) (first last free : ℕ) (o : Bool) (es : List (Entry T)) (h : ℕ) (n : Node T) → Holds ns first last free o es → h < length ns → n ≡ get_or ns h n → find_item es h ≡ n.item
+  read-any ns first last free o es h n s l r = sym (s.found h) ∙ item-at ns h n (slice_get_read ns (length ns) h n refl l r)
+
+  pub read-past : (ns : List (Node T)) (first last free : ℕ) (o : Bool) (es : List (Entry T)) (h : ℕ) → Holds ns first last free o es → length ns ≤ h → find_item es h ≡ None
+  read-past ns first last free o es h s l = sym (s.found h) ∙ item-past ns h l
+
+  -- ---- the fields after a change
+
+  pub linked-as : (ns ms : List (Node T)) (first f last l free : ℕ) (o : Bool) (es : List (Entry T)) (len : ℕ) → Holds ns first last free o es → ms ≡ ns → f ≡ first → l ≡ last → length es ≡ len → (walk ms len f ≡ es) × IsLinked ms f l len free o
+  linked-as ns ms first f last l free o es len h em ef el q =
+      let h1 = subst (λ (ks : List (Node T)). Holds ks first last free o es) (sym em) h in
+      let h2 = subst (λ k. Holds ms k last free o es) (sym ef) h1 in
+      let h3 = subst (λ k. Holds ms f k free o es) (sym el) h2 in
+      linked ms f l free o es len h3 q
+
+  pub pushed-new : (ns m1 m2 : List (Node T)) (first f last free i len : ℕ) (o : Bool) (es : List (Entry T)) (x : T) → Holds ns first last free o es → length es ≡ len → i ≡ length ns → i < no_link
+      → m1 ≡ with_next ns last i → m2 ≡ m1 ++ node (Some x) last no_link ∷ [] → f ≡ cond (eqb last no_link) i first
+      → (walk m2 (len + 1) f ≡ es ++ record { handle = i; item = x } ∷ []) × IsLinked m2 f i (len + 1) free o × (find_item es i ≡ None)
+  pushed-new ns m1 m2 first f last free i len o es x h q ei room e1 e2 ef =
+      let k = length ns in
+      let wrote : m2 ≡ with_next ns last k ++ node (Some x) last no_link ∷ [] = e2 ∙ ap (λ ms. ms ++ node (Some x) last no_link ∷ []) (e1 ∙ ap (with_next ns last) ei) in
+      let start : f ≡ cond (eqb last no_link) k first = ef ∙ ap (λ j. cond (eqb last no_link) j first) ei in
+      let r = linked-as _ m2 _ f _ i free o (es ++ record { handle = k; item = x } ∷ []) (len + 1) (holds-new ns first last free o es x h (omega arith)) wrote start ei (omega (arith, length-append es (record { handle = k; item = x } ∷ []))) in
+      (r.0 ∙ ap (λ j. es ++ record { handle = j; item = x } ∷ []) (sym ei), r.1, ap (find_item es) ei ∙ fresh ns first last free o es h)
+
+  pub pushed-again : (ns m1 m2 : List (Node T)) (first f last free prev next len : ℕ) (o : Bool) (es : List (Entry T)) (x : T) → Holds ns first last free o es → length es ≡ len → len < length ns
+      → slice_get ns free ≡ Some (node None prev next) → m1 ≡ set ns free (node (Some x) last no_link) → m2 ≡ with_next m1 last free → f ≡ cond (eqb last no_link) free first
+      → (walk m2 (len + 1) f ≡ es ++ record { handle = free; item = x } ∷ []) × IsLinked m2 f free (len + 1) next false × (find_item es free ≡ None) × (length m2 ≡ length ns)
+  pushed-again ns m1 m2 first f last free prev next len o es x h q l was e1 e2 ef =
+      let wrote = e2 ∙ ap (λ ms. with_next ms last free) e1 in
+      let r = linked-as _ m2 _ f _ free next false (es ++ record { handle = free; item = x } ∷ []) (len + 1) (holds-again ns first last free o es x prev next h (omega arith) was) wrote ef refl (omega (arith, length-append es (record { handle = free; item = x } ∷ []))) in
+      (
+        r.0,
+        r.1,
+        sym (h.found free) ∙ item-at ns free _ was,
+        ap length wrote ∙ with_next-length (set ns free (node (Some x) last no_link)) last free ∙ length-set ns free (node (Some x) last no_link),
+      )

@@ -2,3 +2,4 @@ pub mod lemmas
 mod NodeFacts
 mod Paths
 mod Holding
+mod Removal

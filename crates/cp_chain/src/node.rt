@@ -1,5 +1,5 @@
 //! Nodes: an item with the numbers of its neighbours.
-ghost use Rattle.std.specs.Prelude.{◌≡◌, ◌⊎◌, ◌==◌, ◌<◌, ◌≤◌, Some, None, IsSome, if◌then◌else◌, slice_get, slice_set, vec_len, length};
+ghost use Rattle.std.specs.Prelude.{◌≡◌, ◌⊎◌, ◌==◌, ◌<◌, ◌≤◌, Some, None, IsSome, if◌then◌else◌, slice_get, slice_set, vec_len, vec_capacity};
 ghost use Rattle.cp_chain.specs.Nodes.{with_next, with_prev, item_in, node};
 
 use std::mem;
@@ -21,6 +21,7 @@ pub(crate) fn set_next<T>(nodes: &mut Vec<Node<T>>, first: u32, at: u32, next: u
     requires known { at < vec_len nodes.old ⊎ (at ≡ 4294967295) }
     ensures first { result ≡ (if at == 4294967295 then next else first) }
     ensures nodes { nodes.new.items ≡ with_next nodes.old.items at next }
+    ensures capacity { vec_capacity nodes.new ≡ vec_capacity nodes.old }
 {
     if at == END {
         return next;
@@ -35,6 +36,7 @@ pub(crate) fn set_prev<T>(nodes: &mut Vec<Node<T>>, last: u32, at: u32, prev: u3
     requires known { at < vec_len nodes.old ⊎ (at ≡ 4294967295) }
     ensures last { result ≡ (if at == 4294967295 then prev else last) }
     ensures nodes { nodes.new.items ≡ with_prev nodes.old.items at prev }
+    ensures capacity { vec_capacity nodes.new ≡ vec_capacity nodes.old }
 {
     if at == END {
         return prev;
@@ -48,6 +50,7 @@ pub(crate) fn take_out<T>(nodes: &mut Vec<Node<T>>, at: u32, free: u32) -> (T, u
     requires { IsSome (item_in nodes.old.items at) }
     ensures was { slice_get nodes.old.items at ≡ Some (node (Some result.0) result.1 result.2) }
     ensures nodes { nodes.new.items ≡ slice_set nodes.old.items at (node None 4294967295 free) }
+    ensures capacity { vec_capacity nodes.new ≡ vec_capacity nodes.old }
 {
     let freed = Node {
         item: None,
@@ -71,6 +74,7 @@ pub(crate) fn fill<T>(nodes: &mut Vec<Node<T>>, at: u32, last: u32, item: T) -> 
     requires known { at < vec_len nodes.old }
     ensures was { (prev : _) × (slice_get nodes.old.items at ≡ Some (node None prev result)) }
     ensures nodes { nodes.new.items ≡ slice_set nodes.old.items at (node (Some item) last 4294967295) }
+    ensures capacity { vec_capacity nodes.new ≡ vec_capacity nodes.old }
 {
     let filled = Node {
         item: Some(item),

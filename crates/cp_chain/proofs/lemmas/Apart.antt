@@ -55,3 +55,14 @@ AreRising-drop (x ∷ xs) y ys p = (Each-drop (λ k. x < k) xs y ys p.0, AreRisi
 pub AreRising-push : (xs : List ℕ) (y : ℕ) → Each (λ x. x < y) xs → AreRising xs → AreRising (xs ++ y ∷ [])
 AreRising-push [] y p d = (tt, tt)
 AreRising-push (x ∷ xs) y p d = (Each-join (λ k. x < k) xs (y ∷ []) d.0 (p.0, tt), AreRising-push xs y p.1 d.1)
+
+pub Each-flip : (h : ℕ) (hs : List ℕ) → Each (λ k. h ≢ k) hs → Each (λ k. k ≢ h) hs
+Each-flip h hs p = Each-map (λ k. h ≢ k) (λ k. k ≢ h) hs (λ k n q. n (sym q)) p
+
+-- two lists that have nothing in common, read from the second
+pub Each-across : (xs ys : List ℕ) → Each (λ x. Each (λ y. x ≢ y) ys) xs → Each (λ y. Each (λ x. x ≢ y) xs) ys
+Each-across xs [] p = tt
+Each-across xs (y ∷ ys) p = (
+    Each-map (λ x. Each (λ k. x ≢ k) (y ∷ ys)) (λ x. x ≢ y) xs (λ x q. q.0) p,
+    Each-across xs ys (Each-map (λ x. Each (λ k. x ≢ k) (y ∷ ys)) (λ x. Each (λ k. x ≢ k) ys) xs (λ x q. q.1) p),
+)
