@@ -1,7 +1,7 @@
 -- Paths: how the links of the nodes go along a list of entries, and what a write does to that.
-use Rattle.std.proofs.Common.{◌≡◌, ◌≢◌, ◌<◌, ◌≤◌, ◌+◌, ◌-◌, ◌⊎◌, ℕ, zero, suc, Bool, true, false, cond, eqb, List, [], ◌∷◌, ◌++◌, length, map, set, slice_get, Option, Some, None, IsSome, refl, sym, ap, subst, ◌∙◌, inl, inr, arith, eq-eqb, ne_eqb}
+use Rattle.std.proofs.Common.{◌≡◌, ◌≢◌, ◌<◌, ◌≤◌, ◌+◌, ◌-◌, ◌⊎◌, ℕ, zero, suc, Bool, true, false, cond, eqb, List, [], ◌∷◌, ◌++◌, length, map, set, get_or, slice_get, Option, Some, None, IsSome, refl, sym, ap, subst, ◌∙◌, inl, inr, arith, eq-eqb, ne_eqb}
 use Rattle.std.proofs.lemmas.Bool.{cases_eq, true≢false, false≢true}
-use Rattle.std.proofs.lemmas.Option.{slice_get_within}
+use Rattle.std.proofs.lemmas.Option.{slice_get_within, slice_get_read}
 use Rattle.cp_chain.specs.declared.node.Node.{Node}
 use Rattle.cp_chain.specs.Chains.{Entry, Each, AreDistinct, handles, find_item, HasHandle, first_handle, next_handle, last_handle, last_or, prev_from}
 use Rattle.cp_chain.specs.Nodes.{node, with_next, with_prev, item_in, link_handle, IsPath, AreFree, IsAhead, walk, entry_then}
@@ -208,3 +208,26 @@ module _ {T : Type 0} where
 
   pub ahead-list : (ns : List (Node T)) (at left : ℕ) → 0 < left → walk ns left at ≡ walk ns (suc (left - 1)) at
   ahead-list ns at left l = let q : left ≡ suc (left - 1) = omega arith in ap (λ n. walk ns n at) q
+
+  pub step-next : (ns : List (Node T)) (at m : ℕ) (s : Step ns at m) (n : Node T) → at < length ns → n ≡ get_or ns at n → s.next ≡ n
+  step-next ns at m s n l r =
+      let read : slice_get ns at ≡ Some n = slice_get_read ns (length ns) at n refl l r in
+      let e : Some s.next ≡ Some n = sym s.here ∙ read in
+      cc
+
+  pub step-list : (ns : List (Node T)) (at left : ℕ) (a : IsAhead ns at left) (n : Node T) (x : T) (h : ℕ) → 0 < left → at < length ns → n ≡ get_or ns at n → n.item ≡ Some x → h ≡ at
+      → walk ns left at ≡ record { handle = h; item = x } ∷ walk ns (left - 1) n.next
+  step-list ns at left a n x h l low r i eh =
+      let s = ahead-step ns at left a l in
+      let q : s.next ≡ n = step-next ns at (left - 1) s n low r in
+      let both : Some s.item ≡ Some x = sym s.keeps ∙ ap (λ (k : Node T). k.item) q ∙ i in
+      let item : s.item ≡ x = cc in
+      ahead-list ns at left l ∙ s.list
+      ∙ ap (λ (k : Node T). record { handle = at; item = s.item } ∷ walk ns (left - 1) k.next) q
+      ∙ ap (λ y. record { handle = at; item = y } ∷ walk ns (left - 1) n.next) item
+      ∙ ap (λ k. record { handle = k; item = x } ∷ walk ns (left - 1) n.next) (sym eh)
+
+  pub step-ahead : (ns : List (Node T)) (at left : ℕ) (a : IsAhead ns at left) (n : Node T) → 0 < left → at < length ns → n ≡ get_or ns at n → IsAhead ns n.next (left - 1)
+  step-ahead ns at left a n l low r =
+      let s = ahead-step ns at left a l in
+      subst (λ (k : Node T). IsAhead ns k.next (left - 1)) (step-next ns at (left - 1) s n low r) s.rest
