@@ -135,7 +135,7 @@ module _ {T : Type 0} where
         rising = λ t. absurd (false≢true t);
         gaps = f.rest;
         freed = subst (λ k. AreFree (with_next ms last free) k f.rest) link
-        (free-frame ns (with_next ms last free) f.next f.rest (Each-map (λ k. (k ≢ last) × (free ≢ k)) (λ k. slice_get (with_next ms last free) k ≡ slice_get ns k) f.rest same-rest (Each-both (λ k. k ≢ last) (λ k. free ≢ k) f.rest off-all.1 others.0)) f.onward);
+            (free-frame ns (with_next ms last free) f.next f.rest (Each-map (λ k. (k ≢ last) × (free ≢ k)) (λ k. slice_get (with_next ms last free) k ≡ slice_get ns k) f.rest same-rest (Each-both (λ k. k ≢ last) (λ k. free ≢ k) f.rest off-all.1 others.0)) f.onward);
         apart = others.1;
         total = let t = h.total in omega (arith, length-append es (e ∷ []), with_next-length ms last free);
         few = omega (arith, with_next-length ms last free);
@@ -220,8 +220,7 @@ module _ {T : Type 0} where
       → (walk m2 (len + 1) f ≡ es ++ record { handle = free; item = x } ∷ []) × IsLinked m2 f free (len + 1) next false × (find_item es free ≡ None) × (length m2 ≡ length ns)
   pushed-again ns m1 m2 first f last free prev next len o es x h q l was e1 e2 ef =
       let wrote = e2 ∙ ap (λ ms. with_next ms last free) e1 in
-      let r = linked-as _ m2 _ f _ free next false (es ++ record { handle = free; item = x } ∷ []) (len + 1) (holds-again ns first last free o es x prev next h (omega arith) was) wrote ef refl (omega (arith, length-append es (record { handle = free; item = x } ∷ []))) in
-      (
+      let r = linked-as _ m2 _ f _ free next false (es ++ record { handle = free; item = x } ∷ []) (len + 1) (holds-again ns first last free o es x prev next h (omega arith) was) wrote ef refl (omega (arith, length-append es (record { handle = free; item = x } ∷ []))) in (
         r.0,
         r.1,
         sym (h.found free) ∙ item-at ns free _ was,

@@ -159,8 +159,7 @@ module _ {T : Type 0} where
       let found : find_item es h ≡ Some x = sym (s.found h) ∙ item-at ns h _ was in
       let c = cut es h x found in
       let e : Entry T = record { handle = h; item = x } in
-      let left = holds-cut ns first last free prev next o c.front e c.back (subst (Holds ns first last free o) c.whole s) was in
-      (
+      let left = holds-cut ns first last free prev next o c.front e c.back (subst (Holds ns first last free o) c.whole s) was in (
         subst (Holds (after_removal ns h prev next free) (cond (eqb prev no_link) next first) (cond (eqb next no_link) prev last) h o) (sym c.rest) left,
         omega (arith, ap length c.rest, ap length c.whole, length-append c.front c.back, length-append c.front (e ∷ c.back)),
       )
@@ -175,12 +174,11 @@ module _ {T : Type 0} where
       let p = part ns no_link first c.front e c.back last no_link (subst (λ (ys : List (Entry T)). IsPath ns no_link first ys last no_link) c.whole s.path) in
       let got : Some (node (Some x) p.prev p.next) ≡ Some (node (Some x) prev next) = sym p.here ∙ was in
       let same-node : node (Some x) p.prev p.next ≡ node (Some x) prev next = cc in
-      let known : (k : ℕ) → k < length ns → (k < length ns) ⊎ (k ≡ no_link) = λ k l. inl l in
-      (
+      let known : (k : ℕ) → k < length ns → (k < length ns) ⊎ (k ≡ no_link) = λ k l. inl l in (
         subst (λ k. (k < length ns) ⊎ (k ≡ no_link)) (ap (λ (m : Node T). m.prev) same-node)
-        (link-before (λ k. (k < length ns) ⊎ (k ≡ no_link)) ns c.front first p.prev h (Each-map (λ k. k < length ns) (λ k. (k < length ns) ⊎ (k ≡ no_link)) (handles c.front) known (within ns c.front no_link first p.prev h p.front)) (inr refl) p.front),
+            (link-before (λ k. (k < length ns) ⊎ (k ≡ no_link)) ns c.front first p.prev h (Each-map (λ k. k < length ns) (λ k. (k < length ns) ⊎ (k ≡ no_link)) (handles c.front) known (within ns c.front no_link first p.prev h p.front)) (inr refl) p.front),
         subst (λ k. (k < length ns) ⊎ (k ≡ no_link)) (ap (λ (m : Node T). m.next) same-node)
-        (link-after (λ k. (k < length ns) ⊎ (k ≡ no_link)) ns c.back h p.next last (Each-map (λ k. k < length ns) (λ k. (k < length ns) ⊎ (k ≡ no_link)) (handles c.back) known (within ns c.back h p.next last no_link p.back)) (inr refl) p.back),
+            (link-after (λ k. (k < length ns) ⊎ (k ≡ no_link)) ns c.back h p.next last (Each-map (λ k. k < length ns) (λ k. (k < length ns) ⊎ (k ≡ no_link)) (handles c.back) known (within ns c.back h p.next last no_link p.back)) (inr refl) p.back),
       )
 
   pub removed : (ns m1 m2 m3 : List (Node T)) (first f last l free prev next h len : ℕ) (o : Bool) (es : List (Entry T)) (x : T) → Holds ns first last free o es → length es ≡ len

@@ -103,7 +103,8 @@ impl<T> Chain<T> {
 
     /// How many handles there have been. They are the numbers below this one.
     pub fn slots(&self) -> u32
-        ensures { result ≡ self.now.slots }
+        ensures value { result ≡ self.now.slots }
+        ensures past { (k : ℕ) → result ≤ k → find_item self.now.entries k ≡ None }
     {
         self.nodes.len() as u32
     }

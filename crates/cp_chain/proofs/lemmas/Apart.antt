@@ -63,6 +63,6 @@ Each-flip h hs p = Each-map (λ k. h ≢ k) (λ k. k ≢ h) hs (λ k n q. n (sym
 pub Each-across : (xs ys : List ℕ) → Each (λ x. Each (λ y. x ≢ y) ys) xs → Each (λ y. Each (λ x. x ≢ y) xs) ys
 Each-across xs [] p = tt
 Each-across xs (y ∷ ys) p = (
-    Each-map (λ x. Each (λ k. x ≢ k) (y ∷ ys)) (λ x. x ≢ y) xs (λ x q. q.0) p,
-    Each-across xs ys (Each-map (λ x. Each (λ k. x ≢ k) (y ∷ ys)) (λ x. Each (λ k. x ≢ k) ys) xs (λ x q. q.1) p),
+  Each-map (λ x. Each (λ k. x ≢ k) (y ∷ ys)) (λ x. x ≢ y) xs (λ x q. q.0) p,
+  Each-across xs ys (Each-map (λ x. Each (λ k. x ≢ k) (y ∷ ys)) (λ x. Each (λ k. x ≢ k) ys) xs (λ x q. q.1) p),
 )

@@ -22,7 +22,7 @@ returns-in-None g c =
     let k = c.in-None.ensures.lookup in
     let value = c.deref.ensures.value in
     let high : length c.deref.result.now ≤ c.index.result =
-    elim (cases_lt c.index.result (length c.deref.result.now)) [ | inl l ↦ absurd (false≢true (k.2 l)) | inr m ↦ m ] in
+    elim (cases_lt c.index.result (length c.deref.result.now)) [ inl l ↦ absurd (false≢true (k.2 l)) | inr m ↦ m ] in
     let past = subst (λ (ns : List (Node _)). length ns ≤ c.index.result) value high in
     let none = read-past _ _ _ _ _ _ c.index.result c.self.invariant.0 past in
     let e = sym (ap is_some none) ∙ ap (λ (v : ChainView _). is_some (find_item v.entries c.index.result)) c.self.view_is ∙ ap (λ h. is_some (find_item c.args.self.now.entries h)) c.index.ensures in
