@@ -1,15 +1,15 @@
 -- The nodes hold the entries: what an addition and a removal leave.
-use Rattle.std.proofs.Common.{◌≡◌, ◌≢◌, ◌<◌, ◌≤◌, ◌+◌, ◌⊎◌, ℕ, zero, suc, Bool, true, false, cond, eqb, IsTrue, List, [], ◌∷◌, ◌++◌, length, map, set, get_or, slice_get, Option, Some, None, IsSome, refl, sym, ap, subst, ◌∙◌, inl, inr, arith, length-append, length-set}
-use Rattle.std.proofs.lemmas.Bool.{cases_eq, true≢false, false≢true}
-use Rattle.std.proofs.lemmas.List.{map-append, length-map}
+use Rattle.std.proofs.Common.{◌≡◌, ◌≢◌, ◌<◌, ◌≤◌, ◌+◌, ◌⊎◌, ℕ, suc, Bool, true, false, cond, eqb, List, [], ◌∷◌, ◌++◌, length, set, get_or, slice_get, Some, None, IsSome, refl, sym, ap, subst, ◌∙◌, inl, inr, arith, length-append, length-set}
+use Rattle.std.proofs.lemmas.Bool.{cases_eq, false≢true}
+use Rattle.std.proofs.lemmas.List.{map-append}
 use Rattle.std.proofs.lemmas.Option.{slice_get_within, slice_get_read}
 use Rattle.cp_chain.specs.declared.node.Node.{Node}
-use Rattle.cp_chain.specs.Chains.{Entry, Each, AreDistinct, AreRising, handles, find_item, HasHandle, IsChain, without, next_handle, prev_handle}
-use Rattle.cp_chain.specs.Nodes.{node, with_next, with_prev, item_in, IsPath, AreFree, walk, link_handle, Holds, IsLinked}
-use Rattle.cp_chain.proofs.lemmas.Apart.{Each-map, Each-both, Each-left, Each-right, AreDistinct-left, AreDistinct-right, AreDistinct-across, AreDistinct-drop, AreDistinct-push, AreRising-drop, AreRising-push}
-use Rattle.cp_chain.proofs.lemmas.Entries.{Cut, cut, named, none-found, none-apart, found-pushed, found-beside, found-beside-end, found-here}
-use Rattle.cp_chain.proofs.NodeFacts.{item-at, item-within, item-past, some-within, node-at, with_next-length, with_next-item, with_next-other, with_prev-length, with_prev-item, with_prev-other, set-same, set-other, set-item-other, push-kept, push-new, push-item-other}
-use Rattle.cp_chain.proofs.Paths.{no_link, Parted, part, join, frame, items, within, at-last, end-next, end-prev, walk-path, next-is, prev-is, free-frame, free-apart, free-low, IsTaken}
+use Rattle.cp_chain.specs.Chains.{Entry, Each, AreDistinct, AreRising, handles, find_item, HasHandle, IsChain, next_handle, prev_handle}
+use Rattle.cp_chain.specs.Nodes.{node, with_next, item_in, AreFree, walk, link_handle, Holds, IsLinked}
+use Rattle.cp_chain.proofs.lemmas.Apart.{Each-map, Each-both, AreDistinct-push, AreRising-push}
+use Rattle.cp_chain.proofs.lemmas.Entries.{named, none-apart, found-pushed, found-beside-end}
+use Rattle.cp_chain.proofs.NodeFacts.{item-at, item-past, some-within, with_next-length, with_next-item, with_next-other, set-same, set-other, set-item-other, push-kept, push-new, push-item-other}
+use Rattle.cp_chain.proofs.Paths.{no_link, join, frame, items, within, at-last, end-next, walk-path, next-is, prev-is, free-frame, free-apart, free-low, IsTaken}
 
 module _ {T : Type 0} where
   -- ---- from the entries to the fields

@@ -1,13 +1,13 @@
 -- Paths: how the links of the nodes go along a list of entries, and what a write does to that.
-use Rattle.std.proofs.Common.{◌≡◌, ◌≢◌, ◌<◌, ◌≤◌, ◌+◌, ◌-◌, ◌⊎◌, ℕ, zero, suc, Bool, true, false, cond, eqb, List, [], ◌∷◌, ◌++◌, length, map, set, get_or, slice_get, Option, Some, None, IsSome, refl, sym, ap, subst, ◌∙◌, inl, inr, arith, eq-eqb, ne_eqb}
-use Rattle.std.proofs.lemmas.Bool.{cases_eq, true≢false, false≢true}
+use Rattle.std.proofs.Common.{◌≡◌, ◌≢◌, ◌<◌, ◌≤◌, ◌-◌, ◌⊎◌, ℕ, suc, cond, eqb, List, [], ◌∷◌, ◌++◌, length, get_or, slice_get, Option, Some, None, refl, sym, ap, subst, ◌∙◌, inl, inr, arith, eq-eqb, ne_eqb}
+use Rattle.std.proofs.lemmas.Bool.{cases_eq}
 use Rattle.std.proofs.lemmas.Option.{slice_get_within, slice_get_read}
 use Rattle.cp_chain.specs.declared.node.Node.{Node}
-use Rattle.cp_chain.specs.Chains.{Entry, Each, AreDistinct, handles, find_item, HasHandle, first_handle, next_handle, last_handle, last_or, prev_from}
+use Rattle.cp_chain.specs.Chains.{Entry, Each, AreDistinct, handles, find_item, first_handle, next_handle, last_handle, last_or, prev_from}
 use Rattle.cp_chain.specs.Nodes.{node, with_next, with_prev, item_in, link_handle, IsPath, AreFree, IsAhead, walk, entry_then}
 use Rattle.cp_chain.proofs.lemmas.Apart.{Each-map}
-use Rattle.cp_chain.proofs.lemmas.Entries.{found-here, found-later}
-use Rattle.cp_chain.proofs.NodeFacts.{item-at, with_next-same, with_next-other, with_next-past, with_next-length, with_prev-same, with_prev-other, with_prev-past}
+use Rattle.cp_chain.proofs.lemmas.Entries.{found-later}
+use Rattle.cp_chain.proofs.NodeFacts.{item-at, with_next-same, with_next-other, with_prev-same, with_prev-other}
 
 abbrev pub no_link : ℕ
 no_link = 4294967295

@@ -1,16 +1,16 @@
 -- The nodes hold the entries: what a removal leaves.
-use Rattle.std.proofs.Common.{◌≡◌, ◌≢◌, ◌<◌, ◌≤◌, ◌+◌, ◌-◌, ◌⊎◌, ℕ, zero, suc, Bool, true, false, cond, eqb, IsTrue, List, [], ◌∷◌, ◌++◌, length, map, set, get_or, slice_get, Option, Some, None, IsSome, refl, sym, ap, subst, ◌∙◌, inl, inr, arith, length-append, length-set}
-use Rattle.std.proofs.lemmas.Bool.{cases_eq, true≢false, false≢true}
-use Rattle.std.proofs.lemmas.List.{map-append, length-map}
+use Rattle.std.proofs.Common.{◌≡◌, ◌≢◌, ◌<◌, ◌≤◌, ◌+◌, ◌-◌, ◌⊎◌, ℕ, Bool, cond, eqb, List, [], ◌∷◌, ◌++◌, length, set, slice_get, Some, None, refl, sym, ap, subst, ◌∙◌, inl, inr, arith, length-append, length-set}
+use Rattle.std.proofs.lemmas.Bool.{cases_eq}
+use Rattle.std.proofs.lemmas.List.{map-append}
 use Rattle.std.proofs.lemmas.Option.{slice_get_within}
 use Rattle.cp_chain.specs.declared.node.Node.{Node}
 use Rattle.cp_chain.specs.Chains.{Entry, Each, AreDistinct, AreRising, handles, find_item, without}
-use Rattle.cp_chain.specs.Nodes.{node, with_next, with_prev, item_in, IsPath, AreFree, Holds, IsLinked, walk}
-use Rattle.cp_chain.proofs.lemmas.Apart.{Each-map, Each-both, Each-left, Each-right, Each-join, Each-flip, Each-across, AreDistinct-left, AreDistinct-right, AreDistinct-across, AreDistinct-drop, AreRising-drop}
-use Rattle.cp_chain.proofs.lemmas.Entries.{Cut, cut, none-found, found-beside}
+use Rattle.cp_chain.specs.Nodes.{node, with_next, with_prev, item_in, IsPath, Holds, IsLinked, walk}
+use Rattle.cp_chain.proofs.lemmas.Apart.{Each-map, Each-both, Each-join, Each-flip, Each-across, AreDistinct-left, AreDistinct-right, AreDistinct-across, AreDistinct-drop, AreRising-drop}
+use Rattle.cp_chain.proofs.lemmas.Entries.{cut, none-found, found-beside}
 use Rattle.cp_chain.proofs.NodeFacts.{item-at, with_next-length, with_next-item, with_next-other, with_prev-length, with_prev-item, with_prev-other, set-same, set-other, set-item-other}
 use Rattle.cp_chain.proofs.Holding.{linked-as}
-use Rattle.cp_chain.proofs.Paths.{no_link, Parted, part, join, frame, items, within, at-last, end-next, end-prev, free-frame, free-apart, IsTaken}
+use Rattle.cp_chain.proofs.Paths.{no_link, part, join, frame, items, within, at-last, end-next, end-prev, free-frame, free-apart, IsTaken}
 
 module _ {T : Type 0} where
   -- the link before an entry: none of the numbers that the last of those before it is none of, and that aren't past the nodes

@@ -1,5 +1,5 @@
 -- Chains. A chain is a list of items, each under a handle of its own, by which it is read, taken away and gone on from.
-use Rattle.std.specs.Prelude.{◌≡◌, ◌≢◌, ◌==◌, ◌<◌, ◌≤◌, ◌+◌, ℕ, Bool, List, [], ◌∷◌, length, map, Option, Some, None, is_some, IsSome, IsTrue, if◌then◌else◌, refl}
+use Rattle.std.specs.Prelude.{◌≢◌, ◌==◌, ◌<◌, ◌≤◌, ◌+◌, ℕ, Bool, List, [], ◌∷◌, length, map, Option, Some, None, IsSome, IsTrue, if◌then◌else◌, refl}
 use Rattle.std.specs.Coded.{Coded, code_by, coded×, coded_ℕ, coded_bool, coded_list}
 
 -- an item under its handle

@@ -1,8 +1,8 @@
 -- How a chain lies in its nodes: each names its two neighbours by their numbers, and the freed ones are a list of their own.
 -- The link that names no node is 4,294,967,295. No public clause cites this module.
-use Rattle.std.specs.Prelude.{◌≡◌, ◌==◌, ◌<◌, ◌≤◌, ◌+◌, ℕ, zero, suc, Bool, List, [], ◌∷◌, length, Option, Some, None, IsTrue, if◌then◌else◌, slice_get}
+use Rattle.std.specs.Prelude.{◌≡◌, ◌==◌, ◌≤◌, ◌+◌, ℕ, zero, suc, Bool, List, [], ◌∷◌, length, Option, Some, None, IsTrue, if◌then◌else◌, slice_get}
 use Rattle.cp_chain.specs.declared.node.Node.{Node}
-use Rattle.cp_chain.specs.Chains.{Entry, handles, find_item, AreDistinct, AreRising, Each}
+use Rattle.cp_chain.specs.Chains.{Entry, handles, find_item, AreDistinct, AreRising}
 
 -- the link as a handle
 abbrev pub link_handle : ℕ → Option ℕ

@@ -1,5 +1,5 @@
 -- Lists of numbers in which none stands twice, or which rise.
-use Rattle.std.proofs.Common.{◌≡◌, ◌≢◌, ◌<◌, ◌≤◌, ℕ, zero, suc, List, [], ◌∷◌, ◌++◌, length, refl, sym, ap, subst, ◌∙◌, arith}
+use Rattle.std.proofs.Common.{◌≢◌, ◌<◌, ℕ, List, [], ◌∷◌, ◌++◌, sym}
 use Rattle.cp_chain.specs.Chains.{Each, AreDistinct, AreRising}
 
 pub Each-map : (P Q : ℕ → Type 0) (hs : List ℕ) → ((h : ℕ) → P h → Q h) → Each P hs → Each Q hs

@@ -1,7 +1,7 @@
 -- Lists of entries: what is under a handle, and what a removal and an addition do to it.
-use Rattle.std.proofs.Common.{◌≡◌, ◌≢◌, ◌==◌, ◌<◌, ◌≤◌, ◌+◌, ℕ, zero, suc, Bool, true, false, cond, eqb, List, [], ◌∷◌, ◌++◌, length, map, Option, Some, None, IsSome, is_some, refl, sym, ap, subst, ◌∙◌, inl, inr, arith, eq-eqb, ne_eqb}
-use Rattle.std.proofs.lemmas.Bool.{cases_eq, true≢false, false≢true}
-use Rattle.cp_chain.specs.Chains.{Entry, Each, AreDistinct, handles, find_item, HasHandle, without, from_handle, first_handle, next_handle, last_or, prev_from}
+use Rattle.std.proofs.Common.{◌≡◌, ◌≢◌, ℕ, cond, eqb, List, [], ◌∷◌, ◌++◌, Option, Some, None, IsSome, refl, sym, ap, subst, ◌∙◌, inl, inr, eq-eqb, ne_eqb}
+use Rattle.std.proofs.lemmas.Bool.{cases_eq, false≢true}
+use Rattle.cp_chain.specs.Chains.{Entry, Each, AreDistinct, handles, find_item, HasHandle, without, from_handle}
 
 module _ {T : Type 0} where
   pub found-here : (e : Entry T) (es : List (Entry T)) (h : ℕ) → e.handle ≡ h → find_item (e ∷ es) h ≡ Some e.item

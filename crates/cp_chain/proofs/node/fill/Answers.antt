@@ -1,4 +1,4 @@
-use Rattle.std.proofs.Common.{◌≡◌, ◌<◌, None, Some, length, sym, ◌∙◌, arith}
+use Rattle.std.proofs.Common.{◌≡◌, None, Some, sym, ◌∙◌, arith}
 use Rattle.cp_chain.proofs.NodeFacts.{item-at, read-node}
 use Rattle.cp_chain.specs.Nodes.{item_in}
 use Rattle.cp_chain.proofs.node.fill.Goals as goal

@@ -1,6 +1,6 @@
-use Rattle.std.proofs.Common.{◌≡◌, ◌<◌, ◌≤◌, ◌⊎◌, List, length, get_or, Some, None, false, inl, inr, sym, ap, subst, ◌∙◌, arith}
+use Rattle.std.proofs.Common.{◌≡◌, ◌<◌, ◌≤◌, List, length, get_or, inl, inr, sym, ap, subst, ◌∙◌}
 use Rattle.std.proofs.lemmas.Bool.{cases_lt, false≢true}
-use Rattle.std.specs.Prelude.{IsSome, IsTrue, is_some}
+use Rattle.std.specs.Prelude.{IsTrue, is_some}
 use Rattle.cp_chain.specs.declared.node.Node.{Node}
 use Rattle.cp_chain.specs.Chains.{ChainView, find_item}
 use Rattle.cp_chain.proofs.Holding.{read-any, read-past}

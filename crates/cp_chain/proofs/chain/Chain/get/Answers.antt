@@ -1,4 +1,4 @@
-use Rattle.std.proofs.Common.{◌≡◌, ◌<◌, None, Some, length, sym, subst, ◌∙◌, ap, arith}
+use Rattle.std.proofs.Common.{◌≡◌, None, Some, sym, subst, ◌∙◌, ap, arith}
 use Rattle.cp_chain.specs.Chains.{ChainView, HasHandle, find_item}
 use Rattle.cp_chain.proofs.Holding.{held-within, read-found}
 use Rattle.cp_chain.proofs.lemmas.Entries.{named}

@@ -1,4 +1,4 @@
-use Rattle.std.proofs.Common.{◌<◌, length, sym, subst, ◌∙◌, ap, arith}
+use Rattle.std.proofs.Common.{sym, subst, ◌∙◌, ap, arith}
 use Rattle.cp_chain.specs.Chains.{ChainView, HasHandle, next_handle}
 use Rattle.cp_chain.proofs.Holding.{held-within, read-next}
 use Rattle.cp_chain.proofs.chain.Chain.next.Goals as goal

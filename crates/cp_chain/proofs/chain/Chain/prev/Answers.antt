@@ -1,4 +1,4 @@
-use Rattle.std.proofs.Common.{◌<◌, length, sym, subst, ◌∙◌, ap, arith}
+use Rattle.std.proofs.Common.{sym, subst, ◌∙◌, ap, arith}
 use Rattle.cp_chain.specs.Chains.{ChainView, HasHandle, prev_handle}
 use Rattle.cp_chain.proofs.Holding.{held-within, read-prev}
 use Rattle.cp_chain.proofs.chain.Chain.prev.Goals as goal

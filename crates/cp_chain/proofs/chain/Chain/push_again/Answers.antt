@@ -1,7 +1,7 @@
-use Rattle.std.proofs.Common.{◌≡◌, ◌<◌, ◌≤◌, ◌⊎◌, ◌++◌, ◌∷◌, [], None, length, sym, ap, subst, ◌∙◌, arith, length-append, length-set}
+use Rattle.std.proofs.Common.{◌≡◌, ◌<◌, ◌⊎◌, ◌++◌, ◌∷◌, [], None, length, sym, ap, subst, ◌∙◌, arith, length-set}
 use Rattle.std.proofs.lemmas.Option.{slice_get_within}
 use Rattle.std.specs.Prelude.{vec_len}
-use Rattle.cp_chain.specs.Chains.{ChainView, Entry, find_item}
+use Rattle.cp_chain.specs.Chains.{ChainView, find_item}
 use Rattle.cp_chain.specs.Nodes.{node}
 use Rattle.cp_chain.proofs.NodeFacts.{with_next-length, item-at}
 use Rattle.cp_chain.proofs.Holding.{pushed-again, last-known, first-free}

@@ -1,6 +1,5 @@
-use Rattle.std.proofs.Common.{◌≡◌, ◌<◌, ◌≤◌, ◌⊎◌, ◌++◌, ◌∷◌, [], length, sym, ap, subst, ◌∙◌, arith, length-append}
-use Rattle.std.specs.Prelude.{vec_len}
-use Rattle.cp_chain.specs.Chains.{ChainView, Entry, find_item, HasNewHandle}
+use Rattle.std.proofs.Common.{◌≡◌, ◌<◌, ◌⊎◌, ◌++◌, ◌∷◌, [], length, sym, ap, subst, ◌∙◌, arith}
+use Rattle.cp_chain.specs.Chains.{ChainView, find_item, HasNewHandle}
 use Rattle.cp_chain.proofs.NodeFacts.{with_next-length}
 use Rattle.cp_chain.proofs.Holding.{pushed-new, last-known}
 use Rattle.cp_chain.proofs.chain.Chain.push_new.Goals as goal

@@ -1,4 +1,4 @@
-use Rattle.std.proofs.Common.{◌≡◌, ◌<◌, ◌≤◌, ◌⊎◌, ℕ, List, length, Some, sym, ap, subst, ◌∙◌, arith, length-set}
+use Rattle.std.proofs.Common.{◌≡◌, ◌<◌, ◌⊎◌, length, sym, ap, subst, ◌∙◌, arith, length-set}
 use Rattle.std.specs.Prelude.{vec_len}
 use Rattle.cp_chain.specs.Chains.{ChainView, find_item, without}
 use Rattle.cp_chain.proofs.NodeFacts.{item-at, with_next-length}

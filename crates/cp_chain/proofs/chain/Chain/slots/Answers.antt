@@ -1,4 +1,4 @@
-use Rattle.std.proofs.Common.{◌≡◌, ◌≤◌, length, None, sym, ap, ◌∙◌, arith}
+use Rattle.std.proofs.Common.{sym, ap, ◌∙◌, arith}
 use Rattle.cp_chain.specs.Chains.{ChainView, find_item}
 use Rattle.cp_chain.proofs.Holding.{read-past}
 use Rattle.cp_chain.proofs.chain.Chain.slots.Goals as goal
