@@ -1,0 +1,5 @@
+pub mod lemmas
+mod NodeFacts
+mod Paths
+mod Holding
+mod Removal
