@@ -121,6 +121,14 @@ impl Book {
         Ok(self.append(worker, round, entry))
     }
 
+    /// The number of variables, which no post changes. There are at most 2,000,000.
+    pub fn vars(&self) -> u32
+        ensures value { result ≡ (current self.now).variables }
+        ensures most { result ≤ 2000000 }
+    {
+        self.parts.formula.vars()
+    }
+
     /// The number of the next new clause.
     pub fn next(&self) -> u64
         ensures { result ≡ (current self.now).next }
