@@ -1,5 +1,5 @@
 -- A ledger with one post more.
-use Rattle.std.proofs.Common.{◌≡◌, ℕ, ◌+◌, ◌<◌, ◌≤◌, true, false, not, List, [], ◌∷◌, ◌++◌, length, Option, None, cond, refl, sym, ◌∙◌, ap, subst, inl, inr, arith}
+use Rattle.std.proofs.Common.{◌≡◌, ℕ, ◌+◌, ◌<◌, ◌≤◌, true, false, not, List, [], ◌∷◌, ◌++◌, length, None, cond, refl, sym, ◌∙◌, ap, subst, inl, inr, arith}
 use Rattle.std.specs.Prelude.{◌⊎◌, ◌==◌}
 use Rattle.std.proofs.lemmas.Bool.{cases_eq, ltb-false, false≢true, eq-eqb, ne_eqb, not_from_false, and_from}
 use Rattle.std.proofs.lemmas.List.Sums.{sum_by_push}
@@ -16,11 +16,11 @@ use Rattle.cp_logic.specs.Sweeps.{is_spent}
 use Rattle.cp_logic.proofs.JournalRuns.{folded-push, valid_to, IsLegalJournal-push}
 use Rattle.cp_logic.proofs.Changes.{clauses-expand_in}
 use Rattle.cp_logic.proofs.Runs.{variables-state_after}
-use Rattle.cp_book.specs.Empties.{least_empty}
+use Rattle.cp_book.specs.Empties.{least_empty, empty_numbers}
 use Rattle.cp_book.specs.Kept.{IsLedger}
 use Rattle.cp_book.specs.Views.{BookView, current}
 use Rattle.cp_book.specs.Answers.{passes_numbers}
-use Rattle.cp_book.proofs.EmptyFacts.{no_empty-least, least_empty-changed}
+use Rattle.cp_book.proofs.EmptyFacts.{no_empty-least, empty_numbers-none, empty_numbers-changed}
 use Rattle.cp_book.proofs.Commits.{after-next, count-numbered, numbered-again, look-numbered, legal-open, numbered-run}
 
 -- what a legal journal leads to is a formula
@@ -50,10 +50,10 @@ below_budget rules count h k = elim (cases_eq rules.budget 0) [
 ]
 
 -- a ledger with no posts
-pub IsLedger-start : (first : Formula) (rules : Rules) (stack_variables : ℕ) (least : Option ℕ) → IsFormula first → stack_variables ≡ first.variables → least ≡ least_empty first.clauses
-    → IsLedger first rules [] first [] stack_variables 0 least
+pub IsLedger-start : (first : Formula) (rules : Rules) (stack_variables : ℕ) (empties : List ℕ) → IsFormula first → stack_variables ≡ first.variables → empties ≡ empty_numbers first.clauses
+    → IsLedger first rules [] first [] stack_variables 0 empties
 unfolding folded
-IsLedger-start first rules stack_variables least v w e = record {
+IsLedger-start first rules stack_variables empties v w e = record {
   valid = v;
   legal = λ k p h. absurd (none-some p h);
   formula = refl;
@@ -72,8 +72,8 @@ pub record IsTested (b : BookView) (e : Entry) : Type 0 where
   pub room : passes_numbers (current b) e ≡ false
   pub allowed : is_legal_in (current b).clauses b.rules (numbered (current b).next e) ≡ true
 
-module _ (b : BookView) (now : Formula) (stacked : List Pair) (stack_variables count : ℕ) (least : Option ℕ) (e : Entry)
-    (k : IsLedger b.first b.rules b.posts now stacked stack_variables count least) (t : IsTested b e) where
+module _ (b : BookView) (now : Formula) (stacked : List Pair) (stack_variables count : ℕ) (empties : List ℕ) (e : Entry)
+    (k : IsLedger b.first b.rules b.posts now stacked stack_variables count empties) (t : IsTested b e) where
   -- the entry as it is posted
   abbrev entry : Entry
   entry = numbered (current b).next e
@@ -117,15 +117,20 @@ module _ (b : BookView) (now : Formula) (stacked : List Pair) (stack_variables c
         in_budget = below_budget b.rules (commits b.posts) t.unspent (subst (λ n. (b.rules.budget ≡ 0) ⊎ (n ≤ b.rules.budget)) k.counted k.in_budget);
       }
 
+  -- the empty clauses that are listed with these are these
+  pub tested-listed : (listed new : List ℕ) → listed ≡ empties ++ new → listed ≡ new
+  tested-listed listed new h =
+      h ∙ ap (λ (ns : List ℕ). ns ++ new) (k.empty ∙ empty_numbers-none now.clauses (ap (λ (f : Formula). least_empty f.clauses) k.formula ∙ t.open_still))
+
   -- the empty clauses after it
-  empty_after : least_empty (new_clauses entry) ≡ least_empty (state_after (folded b.first b.posts) (expand entry)).formula.clauses
+  empty_after : empty_numbers (new_clauses entry) ≡ empty_numbers (state_after (folded b.first b.posts) (expand entry)).formula.clauses
   empty_after =
-      sym (ap least_empty (clauses-expand_in (folded b.first b.posts) b.rules entry valid t.allowed (numbered-again (current b).next e))
-      ∙ least_empty-changed (current b).clauses (new_clauses entry) (numbers_of (gone_clauses entry)) (no_empty-least (current b).clauses t.open_still))
+      sym (ap empty_numbers (clauses-expand_in (folded b.first b.posts) b.rules entry valid t.allowed (numbered-again (current b).next e))
+      ∙ empty_numbers-changed (current b).clauses (new_clauses entry) (numbers_of (gone_clauses entry)) (no_empty-least (current b).clauses t.open_still))
 
   -- a ledger with the post of the entry is a ledger
   pub IsLedger-push : (worker round : ℕ) (after : State) → after ≡ state_after state (expand (numbered now.next e))
-      → IsLedger b.first b.rules (b.posts ++ record { worker = worker; round = round; entry = numbered now.next e } ∷ []) after.formula after.pairs stack_variables (count + 1) (least_empty (new_clauses (numbered now.next e)))
+      → IsLedger b.first b.rules (b.posts ++ record { worker = worker; round = round; entry = numbered now.next e } ∷ []) after.formula after.pairs stack_variables (count + 1) (empty_numbers (new_clauses (numbered now.next e)))
   IsLedger-push worker round after r =
       let may = may_follow worker round in
       let post : Post = record { worker = worker; round = round; entry = entry } in
@@ -133,7 +138,7 @@ module _ (b : BookView) (now : Formula) (stacked : List Pair) (stack_variables c
       let counted : count ≡ commits b.posts = k.counted in
       let then : after ≡ state_after (folded b.first b.posts) (expand entry) = r ∙ ap (λ (s : State). state_after s (expand (numbered s.formula.next e))) state_is in
       let whole : folded b.first (b.posts ++ post ∷ []) ≡ state_after (folded b.first b.posts) (expand entry) = folded-push b.first b.posts post in
-      subst (λ n. IsLedger b.first b.rules (b.posts ++ (let p : Post = record { worker = worker; round = round; entry = numbered n e } in p) ∷ []) after.formula after.pairs stack_variables (count + 1) (least_empty (new_clauses (numbered n e))))
+      subst (λ n. IsLedger b.first b.rules (b.posts ++ (let p : Post = record { worker = worker; round = round; entry = numbered n e } in p) ∷ []) after.formula after.pairs stack_variables (count + 1) (empty_numbers (new_clauses (numbered n e))))
       (sym (ap (λ (f : Formula). f.next) k.formula))
       (record {
         valid = k.valid;
@@ -143,5 +148,5 @@ module _ (b : BookView) (now : Formula) (stacked : List Pair) (stack_variables c
         variables = k.variables;
         counted = omega arith;
         in_budget = elim may.in_budget [ inl z ↦ inl z | inr l ↦ inr (omega arith) ];
-        empty = empty_after ∙ ap (λ (s : State). least_empty s.formula.clauses) (sym then);
+        empty = empty_after ∙ ap (λ (s : State). empty_numbers s.formula.clauses) (sym then);
       })

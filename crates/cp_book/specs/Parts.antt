@@ -14,10 +14,10 @@ view_of p = record {
   prepared = option_map (λ s. entry_of s.value) p.prepared;
 }
 
--- the current formula, the pairs, the count of commits and the least number of an empty clause are what the posts lead to
+-- the current formula, the pairs, the count of commits and the numbers of the empty clauses are what the posts lead to
 abbrev pub HasLedger : Parts → Type 0
-HasLedger p = IsLedger p.first.value.formula p.rules p.journal.items p.formula.formula (pairs_of p.stack.pairs) p.stack.vars p.commits p.empty
+HasLedger p = IsLedger p.first.value.formula p.rules p.journal.items p.formula.formula (pairs_of p.stack.pairs) p.stack.vars p.commits p.empties.items
 
 -- there is room for the entry for which the book is prepared
 abbrev pub HasRoom : Parts → Type 0
-HasRoom p = IsReady (option_map (λ s. entry_of s.value) p.prepared) p.journal.spare p.formula.spare p.stack.pairs.spare p.seconds.items
+HasRoom p = IsReady (option_map (λ s. entry_of s.value) p.prepared) p.journal.spare p.formula.spare p.empties.spare p.stack.pairs.spare p.seconds.items

@@ -11,12 +11,13 @@ ghost use Rattle.cp_logic.specs.Journals.{IsLegalJournal, commits};
 ghost use Rattle.cp_logic.specs.Pairs.{pairs_of};
 ghost use Rattle.cp_logic.specs.Sweeps.{is_spent};
 ghost use Rattle.cp_logic.specs.Views.{entry_of};
-ghost use Rattle.cp_book.specs.Empties.{least_empty};
+ghost use Rattle.cp_book.specs.Empties.{empty_numbers, least_empty};
 ghost use Rattle.cp_book.specs.Views.{current, current_pairs, with_post, stop_in};
 ghost use Rattle.cp_book.specs.Answers.{answer_to, given_answer, passes_numbers};
 
 use crate::answers::PostAnswer;
-use crate::changes::{apply, empty_added, first_empty, seconds_of_added, weakened_count};
+use crate::changes::{apply, empties_of, push_empties, seconds_of_added, weakened_count};
+use crate::numbers::Numbers;
 use cp_logic::{Clause, Entry, Formula, Journal, Post, Rules, Stack, Stop};
 use std::alloc::{AllocError, Global};
 use std::marker::Model;
@@ -44,8 +45,8 @@ struct Parts {
     journal: Journal,
     stack: Stack,
     commits: u64,
-    // The least number of an empty clause. Nothing is posted once there is one.
-    empty: Option<u64>,
+    // The numbers of the empty clauses. Nothing is posted once there is one, so only one post adds to them.
+    empties: Numbers,
     prepared: Option<Snapshot<Entry>>,
     // A second clause of each that the prepared entry adds.
     seconds: Vec<Clause>,
@@ -69,12 +70,13 @@ impl Book {
         ensures { IfOk result (λ b. b ≡ record { first = formula.formula; rules = rules; posts = []; prepared = None }) }
     {
         let vars = formula.vars();
+        let empties = empties_of(alloc, &formula)?;
         let parts = Parts {
             alloc,
             first: Snapshot::of(&formula),
             rules,
-            empty: first_empty(&formula),
             formula,
+            empties,
             journal: Journal::new(alloc),
             stack: Stack::new(alloc, vars),
             commits: 0,
@@ -97,6 +99,7 @@ impl Book {
         self.parts.prepared = None;
         self.parts.journal.reserve(1)?;
         self.parts.formula.reserve(entry.new_count() as usize)?;
+        self.parts.empties.reserve(entry.new_count() as usize)?;
         let pairs = weakened_count(entry).ok_or(AllocError)?;
         self.parts.stack.reserve(pairs)?;
         self.parts.seconds = seconds_of_added(self.parts.alloc, entry)?;
@@ -119,6 +122,14 @@ impl Book {
     {
         let entry = self.unless_stopped(entry)?;
         Ok(self.append(worker, round, entry))
+    }
+
+    /// The number of variables, which no post changes. There are at most 2,000,000.
+    pub fn vars(&self) -> u32
+        ensures value { result ≡ (current self.now).variables }
+        ensures most { result ≤ 2000000 }
+    {
+        self.parts.formula.vars()
     }
 
     /// The number of the next new clause.
@@ -203,7 +214,14 @@ impl Book {
     pub fn least_empty(&self) -> Option<u64>
         ensures { result ≡ least_empty (current self.now).clauses }
     {
-        self.parts.empty
+        self.parts.empties.first()
+    }
+
+    /// The numbers of the empty clauses among the current ones, ascending.
+    pub fn empties(&self) -> &Numbers
+        ensures { result.now.items ≡ empty_numbers (current self.now).clauses }
+    {
+        &self.parts.empties
     }
 
     // Whether the commits number the budget.
@@ -256,7 +274,7 @@ impl Book {
     {
         let parts: &mut Parts = &mut self.parts;
         let entry = entry.numbered(parts.formula.next());
-        parts.empty = empty_added(&entry);
+        push_empties(&mut parts.empties, &entry);
         let seconds = mem::replace(&mut parts.seconds, Vec::new(parts.alloc));
         apply(&mut parts.formula, &mut parts.stack, &entry, seconds);
         parts.prepared = None;

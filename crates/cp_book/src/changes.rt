@@ -1,5 +1,5 @@
 //! What an entry does to the current clauses and to the stack.
-ghost use Rattle.std.specs.Prelude.{◌≡◌, ◌+◌, ◌^◌, ◌≤◌, map, length, if◌then◌else◌, IfOk, IfSome, IfNone};
+ghost use Rattle.std.specs.Prelude.{◌≡◌, ◌+◌, ◌++◌, ◌^◌, ◌≤◌, map, length, if◌then◌else◌, IfOk, IfSome, IfNone};
 ghost use Rattle.std.specs.List.{All};
 ghost use Rattle.cp_logic.specs.Literals.{positive, negative};
 ghost use Rattle.cp_logic.specs.Formulas.{IsWithin, clauses_of};
@@ -8,8 +8,9 @@ ghost use Rattle.cp_logic.specs.Rules.{Weaken, IsAllowed, applied, state_after, 
 ghost use Rattle.cp_logic.specs.Journals.{number_limit};
 ghost use Rattle.cp_logic.specs.Views.{entry_of};
 ghost use Rattle.cp_book.specs.Changes.{state_of, with_all, weakened};
-ghost use Rattle.cp_book.specs.Empties.{least_empty};
+ghost use Rattle.cp_book.specs.Empties.{empty_numbers};
 
+use crate::numbers::Numbers;
 use cp_logic::{Clause, Entry, Formula, Lit, Named, NamedList, Pair, Stack};
 use std::alloc::{AllocError, Global};
 
@@ -113,26 +114,27 @@ fn weaken(formula: &mut Formula, stack: &mut Stack, gone: &Named, lit: Lit)
     }
 }
 
-/// The least number of an empty clause of the formula, if it has one.
-pub(crate) fn first_empty(formula: &Formula) -> Option<u64>
-    ensures { result ≡ least_empty formula.now.formula.clauses }
+/// The numbers of the empty clauses of the formula.
+pub(crate) fn empties_of(alloc: Global, formula: &Formula) -> Result<Numbers, AllocError>
+    ensures { IfOk result (λ l. l.items ≡ empty_numbers formula.now.formula.clauses) }
 {
+    let mut numbers = Numbers::new(alloc);
     for (number, clause) in formula.iter() {
         if clause.lits().is_empty() {
-            return Some(number);
+            numbers.push(number)?;
         }
     }
-    None
+    Ok(numbers)
 }
 
-/// The number of the first of the entry's new clauses that is empty, if there is one.
-pub(crate) fn empty_added(entry: &Entry) -> Option<u64>
-    ensures { result ≡ least_empty (new_clauses (entry_of entry.now)) }
+/// Appends the numbers of the entry's new clauses that are empty. It takes no memory.
+pub(crate) fn push_empties(numbers: &mut Numbers, entry: &Entry)
+    requires { length (new_clauses (entry_of entry.now)) ≤ numbers.old.spare }
+    ensures { numbers.new.items ≡ numbers.old.items ++ empty_numbers (new_clauses (entry_of entry.now)) }
 {
     for named in entry.new_clauses() {
         if named.clause.lits().is_empty() {
-            return Some(named.number);
+            numbers.push_reserved(named.number);
         }
     }
-    None
 }

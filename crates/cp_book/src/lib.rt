@@ -8,8 +8,10 @@
 mod answers;
 mod book;
 mod changes;
+mod numbers;
 #[cfg(test)]
 mod tests;
 
 pub use answers::PostAnswer;
 pub use book::Book;
+pub use numbers::Numbers;
