@@ -60,7 +60,8 @@ impl Hood {
     }
 
     /// Takes all memory that the cells need for the entry, which fits at the centre: places of its new clauses, a second entry, and room
-    /// in the cells of the new clauses' variables. The error comes only if memory is out. The cells list what they listed, also after an error.
+    /// in the cells of the new clauses' variables. The error comes only if memory is out. The cells list what they listed, also after an
+    /// error.
     pub fn prepare(&mut self, alloc: Global, entry: &Entry) -> Result<Prepared, AllocError>
         requires legal { (rules : Rules) × IsLegalAt rules self.old (entry_of entry.now) }
         ensures same { IsSameHood self.old self.new }
