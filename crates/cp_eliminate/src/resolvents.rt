@@ -8,7 +8,7 @@ ghost use Rattle.cp_logic.specs.Legality.{resolvents};
 ghost use Rattle.cp_logic.specs.Resolvents.{resolvents_by};
 ghost use Rattle.cp_eliminate.specs.Sides.{Has};
 
-use cp_logic::{Clause, Lit, Named, NamedList};
+use cp_logic::{Lit, Named, NamedList};
 use cp_occ::Lent;
 use std::alloc::{AllocError, Global};
 
@@ -21,7 +21,7 @@ pub(crate) fn are_at_most(pos: &[Lent<'_>], neg: &[Lent<'_>], var: u32, most: u1
     let lit = Lit::new(var, true);
     let mut left = most;
     for first in pos {
-        let Some(rest) = left_after(first.clause(), neg, lit, left) else {
+        let Some(rest) = left_after(first, neg, lit, left) else {
             return false;
         };
         left = rest;
@@ -30,13 +30,13 @@ pub(crate) fn are_at_most(pos: &[Lent<'_>], neg: &[Lent<'_>], var: u32, most: u1
 }
 
 // What is left of so many after one for each resolvent of the clause that is no tautology, or `None` where they are more.
-fn left_after(clause: &Clause, neg: &[Lent<'_>], lit: Lit, most: u128) -> Option<u128>
-    ensures some { IfSome result (λ left. left + length (resolvents_by lit clause.now neg.now) ≡ most) }
-    ensures none { IfNone result (most < length (resolvents_by lit clause.now neg.now)) }
+fn left_after(clause: &Lent<'_>, neg: &[Lent<'_>], lit: Lit, most: u128) -> Option<u128>
+    ensures some { IfSome result (λ left. left + length (resolvents_by lit clause.now.clause neg.now) ≡ most) }
+    ensures none { IfNone result (most < length (resolvents_by lit clause.now.clause neg.now)) }
 {
     let mut left = most;
     for second in neg {
-        if !clause.resolves_to_tautology(second.clause(), lit) {
+        if !clause.resolves_to_tautology(second, lit) {
             left = left.checked_sub(1)?;
         }
     }
@@ -59,7 +59,7 @@ pub(crate) fn numbered_resolvents(
 {
     let mut new = NamedList::new(alloc);
     for first in pos {
-        add_resolvents(alloc, &mut new, first.clause(), neg, var, next)?;
+        add_resolvents(alloc, &mut new, first, neg, var, next)?;
     }
     Ok(new)
 }
@@ -68,21 +68,22 @@ pub(crate) fn numbered_resolvents(
 fn add_resolvents(
     alloc: Global,
     new: &mut NamedList,
-    clause: &Clause,
+    first: &Lent<'_>,
     neg: &[Lent<'_>],
     var: u32,
     next: u64,
 ) -> Result<(), AllocError>
     requires low { 1 ≤ var }
     requires high { var ≤ 2000000 }
-    requires has { IsTrue (contains clause.now (positive var)) }
+    requires has { IsTrue (contains first.now.clause (positive var)) }
     requires others_have { All (Has (negative var)) neg.now }
-    ensures { OnOk result (new.new.items ≡ new.old.items ++ numbered_from (next + length new.old.items) (resolvents_by (positive var) clause.now neg.now)) }
+    ensures { OnOk result (new.new.items ≡ new.old.items ++ numbered_from (next + length new.old.items) (resolvents_by (positive var) first.now.clause neg.now)) }
 {
     let lit = Lit::new(var, true);
+    let clause = first.clause();
     for second in neg {
         let other = second.clause();
-        if !clause.resolves_to_tautology(other, lit) {
+        if !first.resolves_to_tautology(second, lit) {
             let number = next.checked_add(new.len() as u64).ok_or(AllocError)?;
             let built = clause.resolve(alloc, other, var)?;
             new.push(Named {

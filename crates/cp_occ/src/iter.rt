@@ -1,5 +1,5 @@
 //! Iterators over the clauses of a cell.
-ghost use Rattle.std.specs.Prelude.{◌≡◌, IfOk};
+ghost use Rattle.std.specs.Prelude.{◌≡◌, [], ◌∷◌, IfOk, IfSome, IfNone};
 ghost use Rattle.std.specs.Iterator.{YieldsFirstBy, item_count};
 ghost use Rattle.std.specs.List.{find};
 ghost use Rattle.std.specs.Option.{option_map};
@@ -79,11 +79,27 @@ impl<'a> LiteralIter<'a> {
     pub fn gathered(self, alloc: Global) -> Result<Vec<Lent<'a>>, AllocError>
         ensures { IfOk result (λ list. list.items ≡ self.entry) }
     {
-        let mut list = Vec::with_capacity(alloc, self.left.len())?;
-        for (number, clause) in self {
-            list.push(Lent::new(number, clause))?;
+        let mut left = self;
+        let mut list = Vec::with_capacity(alloc, left.left.len())?;
+        while let Some(occurrence) = left.next_occurrence() {
+            list.push(Lent::new(occurrence))?;
         }
         Ok(list)
+    }
+
+    // The occurrence of the next clause that has the literal.
+    fn next_occurrence(&mut self) -> Option<&'a Occurrence>
+        ensures some { IfSome result (λ o. self.old ≡ o.now ∷ self.new) }
+        ensures none { IfNone result (self.old ≡ []) }
+        ensures left { IfNone result (self.new ≡ []) }
+    {
+        while let Some((first, rest)) = self.left.split_first() {
+            self.left = rest;
+            if first.has(self.lit) {
+                return Some(first);
+            }
+        }
+        None
     }
 }
 
@@ -95,12 +111,7 @@ impl<'a> Iterator for LiteralIter<'a> {
     ghost remaining = { item_count (λ rest. rest) };
 
     fn next(&mut self) -> Option<(u64, &'a Clause)> {
-        while let Some((first, rest)) = self.left.split_first() {
-            self.left = rest;
-            if first.has(self.lit) {
-                return Some((first.number(), first.clause()));
-            }
-        }
-        None
+        let found = self.next_occurrence()?;
+        Some((found.number(), found.clause()))
     }
 }

@@ -1,15 +1,16 @@
 //! Clauses that a cell lends.
 ghost use Rattle.std.specs.Prelude.{◌≡◌, IfOk};
+ghost use Rattle.cp_logic.specs.Clauses.{is_tautology, resolvent};
 
-use cp_logic::{Clause, Named};
+use crate::occurrence::Occurrence;
+use cp_logic::{Clause, Lit, Named};
 use std::alloc::AllocError;
 use std::marker::Model;
 
 /// A clause that a cell lends, with its number, seen as the numbered clause.
 #[derive(Drop)]
 pub struct Lent<'a> {
-    number: u64,
-    clause: &'a Clause,
+    occurrence: &'a Occurrence,
 }
 
 impl<'a> Model for Lent<'a> {
@@ -17,21 +18,29 @@ impl<'a> Model for Lent<'a> {
 
     ghost Value = { Named };
 
-    ghost view = { λ c. record { number = c.number; clause = c.clause.now } };
+    ghost view = { λ c. c.occurrence.now };
 }
 
 impl<'a> Lent<'a> {
-    pub(crate) fn new(number: u64, clause: &'a Clause) -> Lent<'a>
-        ensures { result ≡ record { number = number; clause = clause.now } }
+    pub(crate) fn new(occurrence: &'a Occurrence) -> Lent<'a>
+        ensures { result ≡ occurrence.now }
     {
-        Lent { number, clause }
+        Lent { occurrence }
     }
 
     /// The clause.
     pub fn clause(&self) -> &'a Clause
         ensures { result.now ≡ self.now.clause }
     {
-        self.clause
+        self.occurrence.clause()
+    }
+
+    /// Whether the resolvent of this clause on the literal and of another on its negation is a tautology. The bits exclude most
+    /// pairs, and then no literal is read.
+    pub fn resolves_to_tautology(&self, other: &Lent<'_>, lit: Lit) -> bool
+        ensures { result ≡ is_tautology (resolvent lit self.now.clause other.now.clause) }
+    {
+        self.occurrence.resolves_to_tautology(other.occurrence, lit)
     }
 
     /// A second clause of the same literals, with its number. The error comes only for want of memory.
@@ -39,8 +48,8 @@ impl<'a> Lent<'a> {
         ensures { IfOk result (λ c. c ≡ self.now) }
     {
         Ok(Named {
-            number: self.number,
-            clause: self.clause.again()?,
+            number: self.occurrence.number(),
+            clause: self.occurrence.clause().again()?,
         })
     }
 }

@@ -10,6 +10,5 @@ pub loop-first-preserved : goal.loop-first-preserved
 loop-first-preserved c =
     let old = c.loop-first.new.items in
     c.in_ok-add_resolvents.ensures
-    ∙ ap (λ ls. old ++ numbered_from (c.args.next + length old) (resolvents_by (positive c.args.var) ls c.args.neg.now)) c.clause.ensures
     ∙ numbered-more c.args.next c.args.var (take c.loop-first.first-index c.args.pos.now) c.first-item.result c.args.neg.now old c.loop-first.invariant
     ∙ ap (λ ds. numbered_from c.args.next (resolvents c.args.var ds c.args.neg.now)) (sym (take-item c.args.pos.now c.loop-first.first-index c.first-item.result c.loop-first-test.true c.first-item.is))

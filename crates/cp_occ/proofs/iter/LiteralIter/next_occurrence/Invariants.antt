@@ -1,6 +1,6 @@
 use Rattle.std.proofs.Common.{◌≡◌, length}
 use Rattle.cp_logic.specs.Legality.{clauses_with}
-use Rattle.cp_occ.proofs.iter.LiteralIterIterator.next.Given as goal
+use Rattle.cp_occ.proofs.iter.LiteralIter.next_occurrence.Given as goal
 
 -- only clauses without the literal were passed over
 abbrev pub invariant-loop-first : goal.invariant-loop-first
