@@ -11,34 +11,39 @@
 //! them all. The answer is the least clause that is blocked, so clauses are looked at by ascending numbers, and no order is learnt.
 //! A clause has one literal of the variable to be blocked on, for a cell with a tautology is left alone: the tautology goes first, by
 //! an entry of its own. Nothing is marked, since the literals of clauses ascend, and one pass over two clauses tells whether their
-//! resolvent is a tautology. Before that pass the bits that the cell keeps exclude most pairs. No clause of either sign is listed.
-ghost use Rattle.std.specs.Prelude.{◌≡◌, ◌≤◌, ◌||◌, not, IfOk};
+//! resolvent is a tautology. Before that pass the bits that the cell keeps exclude most pairs. The clauses of each sign are listed once,
+//! so that no clause is passed over again for each other one.
+ghost use Rattle.std.specs.Prelude.{◌≡◌, ◌≤◌, IfOk, if◌then◌else◌};
+ghost use Rattle.std.specs.List.{list_all};
 ghost use Rattle.std.specs.Option.{option_map};
-ghost use Rattle.cp_logic.specs.Literals.{negated};
-ghost use Rattle.cp_logic.specs.Clauses.{contains, is_tautology, resolvent};
-ghost use Rattle.cp_logic.specs.Legality.{blocks, first_of_kind, is_blocked};
+ghost use Rattle.cp_logic.specs.Literals.{is_positive};
+ghost use Rattle.cp_logic.specs.Clauses.{is_tautology, resolvent};
+ghost use Rattle.cp_logic.specs.Legality.{blocks, first_of_kind};
 ghost use Rattle.cp_logic.specs.Views.{entry_of};
 ghost use Rattle.cp_blocked.specs.Finds.{literal_at};
 
 use cp_logic::{Entry, Lit, Named};
-use cp_occ::{Cell, Occurrence};
+use cp_occ::{Cell, Lent, Occurrence};
 use std::alloc::{AllocError, Global};
 
 /// The clause of the least number that is blocked on its literal of the cell's variable, with that literal, or `None` where there is
 /// none. Where a clause of the cell is a tautology, none counts as blocked.
 ///
 /// The error comes only for want of memory.
-pub fn first_blocked(_alloc: Global, cell: &Cell) -> Result<Option<Entry>, AllocError>
+pub fn first_blocked(alloc: Global, cell: &Cell) -> Result<Option<Entry>, AllocError>
     ensures { IfOk result (λ o. option_map entry_of o ≡ first_of_kind cell.now.variable cell.now.clauses (blocks cell.now.clauses)) }
 {
     let var = cell.var();
     if cell.has_tautology() {
         return Ok(None);
     }
+    let pos = cell.pos().gathered(alloc)?;
+    let neg = cell.neg().gathered(alloc)?;
     let all = cell.occurrences();
     for first in all {
         let lit = literal_at(first, var);
-        if is_blocked(first, all, lit) {
+        let others = clauses_against(&pos, &neg, lit);
+        if is_blocked(first, others, lit) {
             let number = first.number();
             let clause = first.clause().again()?;
             let gone = Named { number, clause };
@@ -62,21 +67,21 @@ fn literal_at(clause: &Occurrence, var: u32) -> Lit
     }
 }
 
-// Whether each resolvent of the clause on the literal is a tautology.
-fn is_blocked(clause: &Occurrence, all: &[Occurrence], lit: Lit) -> bool
-    ensures { result ≡ is_blocked all.now clause.now.clause lit }
+// Of the clauses with the variable and those with its negation, those with the negation of the literal.
+fn clauses_against<'l, 'a>(pos: &'l [Lent<'a>], neg: &'l [Lent<'a>], lit: Lit) -> &'l [Lent<'a>]
+    ensures { result.now ≡ (if is_positive lit then neg.now else pos.now) }
 {
-    for other in all {
-        if !is_no_hindrance(clause, other, lit) {
+    if lit.is_positive() { neg } else { pos }
+}
+
+// Whether each resolvent of the clause with one of the others, on the literal, is a tautology.
+fn is_blocked(clause: &Occurrence, others: &[Lent<'_>], lit: Lit) -> bool
+    ensures { result ≡ list_all (λ d. is_tautology (resolvent lit clause.now.clause d.clause)) others.now }
+{
+    for other in others {
+        if !clause.resolves_to_tautology(other.occurrence(), lit) {
             return false;
         }
     }
     true
-}
-
-// Whether the other clause hasn't the negation of the literal, or the resolvent is a tautology.
-fn is_no_hindrance(clause: &Occurrence, other: &Occurrence, lit: Lit) -> bool
-    ensures { result ≡ (not (contains other.now.clause (negated lit)) || is_tautology (resolvent lit clause.now.clause other.now.clause)) }
-{
-    !other.has(lit.negated()) || clause.resolves_to_tautology(other, lit)
 }

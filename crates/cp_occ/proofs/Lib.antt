@@ -1,3 +1,4 @@
+pub mod lemmas
 pub mod Numbered
 pub mod Having
 pub mod Entered

@@ -43,6 +43,13 @@ impl<'a> Lent<'a> {
         self.occurrence.resolves_to_tautology(other.occurrence, lit)
     }
 
+    /// What the cell keeps of the clause.
+    pub fn occurrence(&self) -> &'a Occurrence
+        ensures { result.now ≡ self.now }
+    {
+        self.occurrence
+    }
+
     /// A second clause of the same literals, with its number. The error comes only for want of memory.
     pub fn again(&self) -> Result<Named, AllocError>
         ensures { IfOk result (λ c. c ≡ self.now) }

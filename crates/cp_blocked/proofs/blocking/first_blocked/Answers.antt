@@ -1,13 +1,12 @@
-use Rattle.std.proofs.Common.{◌≡◌, ◌∙◌, ◌+◌, ℕ, Bool, List, drop, sym, ap, Some}
+use Rattle.std.proofs.Common.{◌≡◌, ◌∙◌, ◌+◌, ℕ, List, drop, sym, ap, Some}
 use Rattle.std.specs.Option.{option_map}
 use Rattle.std.specs.List.{find}
 use Rattle.std.proofs.Math.ListN.{drop_of_length-le}
 use Rattle.cp_logic.specs.declared.named.Named.{Named}
 use Rattle.cp_logic.specs.Entries.{Block}
-use Rattle.cp_logic.specs.Legality.{is_blocked}
 use Rattle.cp_logic.proofs.ListFacts.{drop-at, find-here}
 use Rattle.cp_blocked.specs.Finds.{literal_at, is_blocked_at}
-use Rattle.cp_blocked.proofs.Firsts.{first-blocked, first-none}
+use Rattle.cp_blocked.proofs.Firsts.{blocked-against, first-blocked, first-none}
 use Rattle.cp_occ.proofs.Having.{cell-have}
 use Rattle.cp_blocked.proofs.Scans.{find-later}
 use Rattle.cp_blocked.proofs.blocking.first_blocked.Goals as goal
@@ -16,11 +15,6 @@ pub returns-then-has_tautology : goal.returns-then-has_tautology
 returns-then-has_tautology c =
     let cell = c.args.cell.now in
     sym (first-none cell.variable cell.clauses (cell-have cell c.var-var.ensures.valid) (sym c.has_tautology.ensures ∙ c.if-has_tautology.true))
-
--- the test of a clause among the same clauses, on the same literal
-same_test : (x y l : ℕ) (cs all : List Named) (here : Named) (b : Bool) → y ≡ x → l ≡ literal_at y here.clause → all ≡ cs → b ≡ is_blocked all here.clause l → is_blocked_at x cs here ≡ b
-same_test x y l cs all here b e d f t =
-    sym (t ∙ ap (λ (ds : List Named). is_blocked ds here.clause l) f ∙ ap (is_blocked cs here.clause) (d ∙ ap (λ z. literal_at z here.clause) e))
 
 pub returns-then-is_blocked : goal.returns-then-is_blocked
 returns-then-is_blocked c =
@@ -35,8 +29,8 @@ returns-then-is_blocked c =
     ∙ sym (first-blocked cell.variable cell.clauses (cell-have cell c.var-var.ensures.valid) (sym c.has_tautology.ensures ∙ c.if-has_tautology.false)
     ∙ ap (option_map (λ (k : Named). Block k (literal_at cell.variable k.clause))) (sym c.loop-first.invariant
     ∙ find-here (is_blocked_at cell.variable cell.clauses) (drop i all) here (drop (i + 1) all) (drop-at all i here c.loop-first-test.true c.first-item.is)
-    (same_test cell.variable c.var-var.result c.literal_at-lit.result cell.clauses all here c.is_blocked.result c.var-var.ensures.value c.literal_at-lit.ensures c.occurrences-all.ensures c.is_blocked.ensures
-    ∙ c.if-is_blocked.true)))
+    (blocked-against cell.variable cell.clauses here.clause c.literal_at-lit.result c.deref.result.now c.deref-in-loop-first.result.now c.clauses_against-others.result.now c.is_blocked.result
+    lit (c.deref.ensures.value ∙ c.in_ok-pos.ensures ∙ c.pos.ensures) (c.deref-in-loop-first.ensures.value ∙ c.in_ok-neg.ensures ∙ c.neg.ensures) c.clauses_against-others.ensures c.is_blocked.ensures ∙ c.if-is_blocked.true)))
 
 pub loop-first-preserved : goal.loop-first-preserved
 loop-first-preserved c =
@@ -44,9 +38,10 @@ loop-first-preserved c =
     let here = c.first-item.result in
     let all = c.occurrences-all.result.now in
     let i = c.loop-first.first-index in
+    let lit : c.literal_at-lit.result ≡ literal_at cell.variable here.clause = c.literal_at-lit.ensures ∙ ap (λ x. literal_at x here.clause) c.var-var.ensures.value in
     find-later (is_blocked_at cell.variable cell.clauses) (drop i all) here (drop (i + 1) all) (drop-at all i here c.loop-first-test.true c.first-item.is)
-    (same_test cell.variable c.var-var.result c.literal_at-lit.result cell.clauses all here c.is_blocked.result c.var-var.ensures.value c.literal_at-lit.ensures c.occurrences-all.ensures c.is_blocked.ensures
-    ∙ c.if-is_blocked.false)
+    (blocked-against cell.variable cell.clauses here.clause c.literal_at-lit.result c.deref.result.now c.deref-in-loop-first.result.now c.clauses_against-others.result.now c.is_blocked.result
+    lit (c.deref.ensures.value ∙ c.in_ok-pos.ensures ∙ c.pos.ensures) (c.deref-in-loop-first.ensures.value ∙ c.in_ok-neg.ensures ∙ c.neg.ensures) c.clauses_against-others.ensures c.is_blocked.ensures ∙ c.if-is_blocked.false)
     ∙ c.loop-first.invariant
 
 pub returns : goal.returns

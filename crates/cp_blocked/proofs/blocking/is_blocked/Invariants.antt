@@ -1,7 +1,9 @@
 use Rattle.std.proofs.Common.{◌≡◌, drop}
-use Rattle.cp_logic.specs.Legality.{is_blocked}
+use Rattle.std.specs.List.{list_all}
+use Rattle.cp_logic.specs.declared.named.Named.{Named}
+use Rattle.cp_logic.specs.Clauses.{is_tautology, resolvent}
 use Rattle.cp_blocked.proofs.blocking.is_blocked.Given as goal
 
--- the clause is blocked among all where it is among the ones that are left
+-- the resolvents with all others are tautologies where those with the ones that are left are
 abbrev pub invariant-loop-other : goal.invariant-loop-other
-invariant-loop-other l = is_blocked (drop l.other-index l.all) l.clause.clause l.lit ≡ is_blocked l.all l.clause.clause l.lit
+invariant-loop-other l = list_all (λ (d : Named). is_tautology (resolvent l.lit l.clause.clause d.clause)) (drop l.other-index l.others) ≡ list_all (λ (d : Named). is_tautology (resolvent l.lit l.clause.clause d.clause)) l.others

@@ -1,8 +1,6 @@
-use Rattle.std.proofs.Common.{◌+◌, ◌++◌, ◌∙◌, length, take, sym, ap}
-use Rattle.cp_logic.specs.Literals.{positive}
+use Rattle.std.proofs.Common.{◌∙◌, take, sym, ap}
 use Rattle.cp_logic.specs.Entries.{numbered_from}
 use Rattle.cp_logic.specs.Legality.{resolvents}
-use Rattle.cp_logic.specs.Resolvents.{resolvents_by}
 use Rattle.cp_eliminate.proofs.Pairs.{take-item, numbered-more}
 use Rattle.cp_eliminate.proofs.resolvents.numbered_resolvents.Goals as goal
 
