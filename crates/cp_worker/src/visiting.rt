@@ -51,8 +51,33 @@ pub fn try_at<G: Gate>(
     ensures visit { (noted : List Note) × (posted : List (ℕ × Post)) × GoesOn seat.old.view seat.new.view noted posted × IfOk result (IsVisit seat.old.view.base seat.old.view.number x round opts.now.hood (length seat.old.view.own.posts) noted posted) }
     ensures idle { IsIdle seat.new.view }
 {
+    let mut reached = Reached::start(alloc);
+    try_with(alloc, yard, seat, x, round, opts, gate, &mut reached)
+}
+
+// The same as `try_at`, with the memory of the searches that came before. What it says of them is forgotten first.
+pub(crate) fn try_with<G: Gate>(
+    alloc: Global,
+    yard: &Yard,
+    seat: &mut Seat,
+    x: u32,
+    round: u32,
+    opts: &Opts,
+    gate: &G,
+    reached: &mut Reached,
+) -> Result<AtAnswer, AllocError>
+    requires table { seat.old.table ≡ yard.now.table }
+    requires base { seat.old.view.base ≡ yard.now.base }
+    requires rules { opts.now.rules ≡ yard.now.base.rules }
+    requires low { 1 ≤ x }
+    requires high { x ≤ yard.now.base.formula.variables }
+    requires idle { IsIdle seat.old.view }
+    ensures table { seat.new.table ≡ seat.old.table }
+    ensures visit { (noted : List Note) × (posted : List (ℕ × Post)) × GoesOn seat.old.view seat.new.view noted posted × IfOk result (IsVisit seat.old.view.base seat.old.view.number x round opts.now.hood (length seat.old.view.own.posts) noted posted) }
+    ensures idle { IsIdle seat.new.view }
+{
     match try_again(alloc, yard, seat, x, opts.hood) {
-        Ok(hood) => visit_under(alloc, yard, seat, hood, round, opts, gate),
+        Ok(hood) => visit_under(alloc, yard, seat, hood, round, opts, gate, reached),
         Err(answer) => left(answer),
     }
 }
@@ -105,6 +130,7 @@ fn visit_under<G: Gate>(
     round: u32,
     opts: &Opts,
     gate: &G,
+    reached: &mut Reached,
 ) -> Result<AtAnswer, AllocError>
     requires table { seat.old.table ≡ yard.now.table }
     requires base { seat.old.view.base ≡ yard.now.base }
@@ -117,7 +143,7 @@ fn visit_under<G: Gate>(
     let mut hood = hood;
     let var = hood.centre().var();
     gate.at(seat.number(), GateEvent::HoodHeld { var });
-    let answer = commit_unless_silent(alloc, yard, seat, &mut hood, round, &opts.rules);
+    let answer = commit_unless_silent(alloc, yard, seat, &mut hood, round, &opts.rules, reached);
     release(yard, seat, hood);
     gate.at(seat.number(), GateEvent::Released { var });
     answer
@@ -131,6 +157,7 @@ fn commit_unless_silent(
     hood: &mut Hood,
     round: u32,
     rules: &Rules,
+    reached: &mut Reached,
 ) -> Result<AtAnswer, AllocError>
     requires table { seat.old.table ≡ yard.now.table }
     requires base { seat.old.view.base ≡ yard.now.base }
@@ -144,7 +171,7 @@ fn commit_unless_silent(
         let commits = Positions::new(alloc);
         return Ok(AtAnswer::Settled { commits });
     }
-    commit_all(alloc, yard, seat, hood, round, rules)
+    commit_all(alloc, yard, seat, hood, round, rules, reached)
 }
 
 // Posts what the search at the centre gives, until it gives nothing or an entry is refused. Each search goes on behind what the last
@@ -156,6 +183,7 @@ fn commit_all(
     hood: &mut Hood,
     round: u32,
     rules: &Rules,
+    reached: &mut Reached,
 ) -> Result<AtAnswer, AllocError>
     requires table { seat.old.table ≡ yard.now.table }
     requires base { seat.old.view.base ≡ yard.now.base }
@@ -166,8 +194,8 @@ fn commit_all(
     ensures holds { HoldsJust seat.new.view hood.new.cells }
 {
     let mut commits = Positions::new(alloc);
-    let mut reached = Reached::start(alloc);
-    'commits: while let Some(entry) = search(alloc, hood.centre(), rules, 1, &mut reached)? {
+    reached.restart();
+    'commits: while let Some(entry) = search(alloc, hood.centre(), rules, 1, reached)? {
         reached.follow(&entry, hood.centre().var());
         if let Err(answer) = commit_listed(alloc, yard, seat, hood, entry, round, &mut commits) {
             return refused(answer, commits);

@@ -13,8 +13,9 @@ ghost use Rattle.cp_worker.specs.Shifts.{IsShift};
 use crate::apart::candidate_at;
 use crate::gate::{Gate, GateEvent};
 use crate::lists::WorkerShift;
-use crate::visiting::try_at;
+use crate::visiting::try_with;
 use cp_claim::{ClaimSeat, Claims};
+use cp_find::Reached;
 use cp_logic::Opts;
 use cp_yard::{Seat, Yard};
 use std::alloc::{AllocError, Global};
@@ -52,9 +53,10 @@ pub fn shift<G: Gate>(
 {
     let mut shift = WorkerShift::new(alloc, seat.number(), round);
     let vars = yard.vars();
+    let mut reached = Reached::start(alloc);
     'draws: while let Some(number) = claims.next(claim) {
         let candidate = candidate_at(number, vars, opts.workers);
-        visit(alloc, yard, seat, candidate, opts, gate, &mut shift)?;
+        visit(alloc, yard, seat, candidate, opts, gate, &mut shift, &mut reached)?;
         if shift.stopped.is_some() {
             return Ok(shift);
         }
@@ -71,6 +73,7 @@ fn visit<G: Gate>(
     opts: &Opts,
     gate: &G,
     shift: &mut WorkerShift,
+    reached: &mut Reached,
 ) -> Result<(), AllocError>
     requires table { seat.old.table ≡ yard.now.table }
     requires base { seat.old.view.base ≡ yard.now.base }
@@ -84,6 +87,6 @@ fn visit<G: Gate>(
     ensures few { OnOk result (length shift.new.taken.items < 2 ^ 64) }
 {
     gate.at(seat.number(), GateEvent::Taken { var: candidate });
-    let answer = try_at(alloc, yard, seat, candidate, shift.round, opts, gate)?;
+    let answer = try_with(alloc, yard, seat, candidate, shift.round, opts, gate, reached)?;
     shift.list(candidate, answer)
 }

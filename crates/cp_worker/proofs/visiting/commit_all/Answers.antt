@@ -22,7 +22,7 @@ commits-init c = record {
   holds = c.requires.holds;
   centre = refl;
   going = begins c.args.seat.now.view c.args.hood.now.centre c.args.round (centre_clauses c.args.hood.now) c.new-commits.result.items c.new-commits.ensures;
-  past = c.start-reached.ensures c.args.hood.now.centre (centre_clauses c.args.hood.now);
+  past = c.restart.ensures c.args.hood.now.centre (centre_clauses c.args.hood.now);
 }
 
 pub search-requires-clause-past : goal.search-requires-clause-past

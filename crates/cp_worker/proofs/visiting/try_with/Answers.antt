@@ -4,7 +4,7 @@ use Rattle.cp_hood.proofs.Going.{GoesOn-then}
 use Rattle.cp_worker.specs.Visits.{notes_of, IsVisit}
 use Rattle.cp_worker.specs.Posting.{IsLeft}
 use Rattle.cp_worker.proofs.Commits.{visited}
-use Rattle.cp_worker.proofs.visiting.try_at.Goals as goal
+use Rattle.cp_worker.proofs.visiting.try_with.Goals as goal
 
 pub returns-in-Ok-clause-visit : goal.returns-in-Ok-clause-visit
 returns-in-Ok-clause-visit g c =
