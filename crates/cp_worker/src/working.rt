@@ -56,7 +56,16 @@ pub fn shift<G: Gate>(
     let mut reached = Reached::start(alloc);
     'draws: while let Some(number) = claims.next(claim) {
         let candidate = candidate_at(number, vars, opts.workers);
-        visit(alloc, yard, seat, candidate, opts, gate, &mut shift, &mut reached)?;
+        visit(
+            alloc,
+            yard,
+            seat,
+            candidate,
+            opts,
+            gate,
+            &mut shift,
+            &mut reached,
+        )?;
         if shift.stopped.is_some() {
             return Ok(shift);
         }
@@ -87,6 +96,15 @@ fn visit<G: Gate>(
     ensures few { OnOk result (length shift.new.taken.items < 2 ^ 64) }
 {
     gate.at(seat.number(), GateEvent::Taken { var: candidate });
-    let answer = try_with(alloc, yard, seat, candidate, shift.round, opts, gate, reached)?;
+    let answer = try_with(
+        alloc,
+        yard,
+        seat,
+        candidate,
+        shift.round,
+        opts,
+        gate,
+        reached,
+    )?;
     shift.list(candidate, answer)
 }
