@@ -14,7 +14,7 @@ use Rattle.cp_logic.specs.Signatures.{pair_of, bit_of, signature, opposite}
 use Rattle.cp_logic.proofs.Members.{none_in, in_here, in_later, in_cases}
 use Rattle.cp_logic.proofs.LiteralFacts.{is_positive-negated, variable_of-negated}
 use Rattle.cp_logic.proofs.SetFacts.{subset-in, in_without}
-use Rattle.cp_logic.proofs.Negations.{clashing-from, negated-apart}
+use Rattle.cp_logic.proofs.Clashing.{clashing-from, negated-apart}
 
 max_assoc : (x y z : ℕ) → max (max x y) z ≡ max x (max y z)
 max_assoc x y z = omega arith

@@ -1,5 +1,5 @@
 //! Passes over two clauses at once, in ascending order. Those for a resolvent meet its literals, and only the first of them builds it.
-ghost use Rattle.std.specs.Prelude.{◌≡◌, ◌<◌, ◌≤◌, length, slice_index_or, IfOk};
+ghost use Rattle.std.specs.Prelude.{◌≡◌, ◌<◌, ◌≤◌, length, slice_index_or, false, IfOk};
 ghost use Rattle.cp_logic.specs.Clauses.{is_subset, is_tautology, resolvent, IsAscending};
 ghost use Rattle.cp_logic.specs.Legality.{same_literals};
 
@@ -73,6 +73,32 @@ pub(crate) fn merges_to_tautology(left: &[Lit], right: &[Lit], pivot: Lit) -> bo
             i += usize::from(one == least);
             j += usize::from(other == least);
         }
+    }
+    false
+}
+
+/// The same of two clauses that are no tautologies. Then a literal of the one has its negation in the other, beside it in their order.
+///
+/// If the left clause has the one and the right clause the other, neither clause has both. So where the lesser of the two is passed, the
+/// other one is next on its side, and the step at which both are next sees them. Each step moves on without a branch on what it compares.
+pub(crate) fn meets_negation(left: &[Lit], right: &[Lit], pivot: Lit) -> bool
+    requires left { IsAscending left.now }
+    requires right { IsAscending right.now }
+    requires left_proper { is_tautology left.now ≡ false }
+    requires right_proper { is_tautology right.now ≡ false }
+    ensures { result ≡ is_tautology (resolvent pivot left.now right.now) }
+{
+    let positive = pivot.code();
+    let mut i = 0;
+    let mut j = 0;
+    while i < left.len() && j < right.len() {
+        let one = left[i].code();
+        let other = right[j].code();
+        if one / 2 == other / 2 && one != other && one != positive {
+            return true;
+        }
+        i += usize::from(one <= other);
+        j += usize::from(other <= one);
     }
     false
 }

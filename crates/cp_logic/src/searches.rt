@@ -4,7 +4,7 @@ ghost use Rattle.cp_logic.specs.Literals.{negated};
 ghost use Rattle.cp_logic.specs.Clauses.{contains, is_subset, is_tautology, resolvent, has_negation, IsAscending};
 
 use crate::lits::Lit;
-use crate::passes::{merges_to_tautology, passes_over};
+use crate::passes::{meets_negation, passes_over};
 
 // A pass over so few literals costs no more than a search.
 const FEW: usize = 8;
@@ -87,7 +87,7 @@ pub(crate) fn clashes(left: &[Lit], right: &[Lit], pivot: Lit) -> bool
     } else if left.len() / MANY_TIMES > right.len() {
         has_negation(right, pivot.negated(), left)
     } else {
-        merges_to_tautology(left, right, pivot)
+        meets_negation(left, right, pivot)
     }
 }
 

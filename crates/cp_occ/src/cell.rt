@@ -10,7 +10,7 @@ ghost use Rattle.cp_logic.specs.Items.{named_item};
 ghost use Rattle.cp_occ.specs.Cells.{from_number};
 ghost use Rattle.cp_occ.specs.Silence.{GivesNothing};
 
-use crate::iter::{CellIter, LiteralIter};
+use crate::iter::{CellIter, LiteralIter, Occurrences};
 use crate::occurrence::Occurrence;
 use crate::place::Place;
 use crate::silence::Searched;
@@ -113,20 +113,30 @@ impl Cell {
     }
 
     /// What is kept of the clauses, by ascending number.
-    pub fn occurrences(&self) -> &[Occurrence]
-        ensures { result.now ≡ self.now.clauses }
+    pub fn occurrences(&self) -> Occurrences<'_>
+        ensures { result ≡ self.now.clauses }
     {
-        self.occurrences.as_slice()
+        Occurrences {
+            left: self.occurrences.as_slice(),
+        }
+    }
+
+    /// What is kept of the clauses whose numbers are this one or above it, by ascending number. The first is found by a binary search.
+    pub fn occurrences_from(&self, number: u64) -> Occurrences<'_>
+        ensures { result ≡ from_number number self.now.clauses }
+    {
+        Occurrences {
+            left: occurrences_from(self.occurrences.as_slice(), number),
+        }
     }
 
     /// The clauses whose numbers are this one or above it, with their numbers, by ascending number. The first is found by a binary search.
     pub fn iter_from(&self, number: u64) -> CellIter<'_>
         ensures { result ≡ from_number number self.now.clauses }
     {
-        let all = self.occurrences.as_slice();
-        let at = all.partition_point(|occurrence| occurrence.number() < number);
-        let (_, left) = all.split_at(at);
-        CellIter { left }
+        CellIter {
+            left: occurrences_from(self.occurrences.as_slice(), number),
+        }
     }
 
     /// The clauses with the variable itself, with their numbers, by ascending number.
@@ -239,6 +249,16 @@ fn one_if(so: bool) -> usize
     ensures { result ≡ (if so then 1 else 0) }
 {
     if so { 1 } else { 0 }
+}
+
+// Those of the occurrences whose numbers are this one or above it.
+fn occurrences_from(occurrences: &[Occurrence], number: u64) -> &[Occurrence]
+    requires { IsAscending (numbers_of occurrences.now) }
+    ensures { result.now ≡ from_number number occurrences.now }
+{
+    let at = occurrences.partition_point(|occurrence| occurrence.number() < number);
+    let (_, left) = occurrences.split_at(at);
+    left
 }
 
 // The position of the clause under the number, if there is one.

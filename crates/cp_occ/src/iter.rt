@@ -57,6 +57,35 @@ impl<'a> Iterator for CellIter<'a> {
     }
 }
 
+/// What a cell keeps of its clauses, by ascending number, seen as the list of those that are left.
+#[derive(Drop)]
+pub struct Occurrences<'a> {
+    pub(crate) left: &'a [Occurrence],
+}
+
+impl<'a> Model for Occurrences<'a> {
+    ghost use Rattle.std.specs.Prelude.{List};
+    ghost use Rattle.cp_logic.specs.declared.named.Named.{Named};
+
+    ghost Value = { List Named };
+
+    ghost view = { λ it. it.left.now };
+}
+
+impl<'a> Iterator for Occurrences<'a> {
+    type Item = &'a Occurrence;
+
+    ghost next_gives = { YieldsFirstBy (λ occurrence. occurrence.now) (λ rest. rest) };
+
+    ghost remaining = { item_count (λ rest. rest) };
+
+    fn next(&mut self) -> Option<&'a Occurrence> {
+        let (first, rest) = self.left.split_first()?;
+        self.left = rest;
+        Some(first)
+    }
+}
+
 /// The clauses of a cell that have a literal, with their numbers, by ascending number, seen as the list of those that are left.
 #[derive(Drop)]
 pub struct LiteralIter<'a> {

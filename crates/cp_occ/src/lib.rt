@@ -21,7 +21,7 @@ mod variables;
 pub use cell::Cell;
 pub use cells::Cells;
 pub use changes::Prepared;
-pub use iter::{CellIter, LiteralIter};
+pub use iter::{CellIter, LiteralIter, Occurrences};
 pub use lent::Lent;
 pub use occurrence::Occurrence;
 pub use place::Place;

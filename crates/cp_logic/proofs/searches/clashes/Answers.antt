@@ -1,6 +1,6 @@
 use Rattle.std.proofs.Common.{◌∙◌, ap}
 use Rattle.cp_logic.specs.Clauses.{has_negation}
-use Rattle.cp_logic.proofs.Negations.{negation-left, negation-right}
+use Rattle.cp_logic.proofs.Clashing.{negation-left, negation-right}
 use Rattle.cp_logic.proofs.searches.clashes.Goals as goal
 
 pub returns-then-right-left : goal.returns-then-right-left
