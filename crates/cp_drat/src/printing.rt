@@ -39,6 +39,9 @@ pub fn print_log<D: Desk>(desk: &mut D, journal: &Journal, form: Form) -> Result
     requires { (D.port desk.old Proof).way ≡ Some Out }
     ensures { AtRole Proof (Writes (log_text form (log_of journal.now.items)) result) (D.port desk.old) (D.port desk.new) }
 {
+    if desk.gives_up(Role::Proof) {
+        return Ok(());
+    }
     let mut buffer = OutputBuffer::new();
     put_posts(&mut buffer, desk, form, journal.as_slice());
     buffer.finish(desk, Role::Proof)
