@@ -10,9 +10,8 @@
 //! Here one cell is searched: each clause that has a part in a resolvent on the variable has the variable, so whoever holds it holds
 //! them all. The answer is the least clause that is blocked, so clauses are looked at by ascending numbers, and no order is learnt.
 //! A clause has one literal of the variable to be blocked on, for a cell with a tautology is left alone: the tautology goes first, by
-//! an entry of its own. Nothing is marked, since the literals of clauses ascend, and one pass over two clauses tells whether their
-//! resolvent is a tautology. Before that pass the bits that the cell keeps exclude most pairs. The clauses of each sign are listed once,
-//! so that no clause is passed over again for each other one.
+//! an entry of its own. The bits that the cell keeps exclude most pairs, and the others are told by marks of the candidate's negations,
+//! which are made once they are asked for. The clauses of each sign are listed by the caller, once for all kinds of entries.
 ghost use Rattle.std.specs.Prelude.{◌≡◌, ◌≤◌, IfOk, if◌then◌else◌};
 ghost use Rattle.std.specs.List.{list_all};
 ghost use Rattle.std.specs.Option.{option_map};
@@ -23,26 +22,24 @@ ghost use Rattle.cp_logic.specs.Views.{entry_of};
 ghost use Rattle.cp_blocked.specs.Finds.{literal_at};
 
 use cp_logic::{Entry, Lit, Named};
-use cp_occ::{Cell, Lent, Occurrence};
-use std::alloc::{AllocError, Global};
+use cp_occ::{Against, Lent, Occurrence, Sides};
+use std::alloc::AllocError;
 
 /// The clause of the least number that is blocked on its literal of the cell's variable, with that literal, or `None` where there is
 /// none. Where a clause of the cell is a tautology, none counts as blocked.
 ///
 /// The error comes only for want of memory.
-pub fn first_blocked(alloc: Global, cell: &Cell) -> Result<Option<Entry>, AllocError>
-    ensures { IfOk result (λ o. option_map entry_of o ≡ first_of_kind cell.now.variable cell.now.clauses (blocks cell.now.clauses)) }
+pub fn first_blocked(sides: &Sides<'_>) -> Result<Option<Entry>, AllocError>
+    ensures { IfOk result (λ o. option_map entry_of o ≡ first_of_kind sides.now.variable sides.now.clauses (blocks sides.now.clauses)) }
 {
+    let cell = sides.cell();
     let var = cell.var();
     if cell.has_tautology() {
         return Ok(None);
     }
-    let pos = cell.pos().gathered(alloc)?;
-    let neg = cell.neg().gathered(alloc)?;
-    let all = cell.occurrences();
-    for first in all {
+    for first in cell.occurrences() {
         let lit = literal_at(first, var);
-        let others = clauses_against(&pos, &neg, lit);
+        let others = clauses_against(sides.pos(), sides.neg(), lit);
         if is_blocked(first, others, lit) {
             let number = first.number();
             let clause = first.clause().again()?;
@@ -78,8 +75,9 @@ fn clauses_against<'l, 'a>(pos: &'l [Lent<'a>], neg: &'l [Lent<'a>], lit: Lit) -
 fn is_blocked(clause: &Occurrence, others: &[Lent<'_>], lit: Lit) -> bool
     ensures { result ≡ list_all (λ d. is_tautology (resolvent lit clause.now.clause d.clause)) others.now }
 {
+    let mut against = Against::new(clause, lit);
     for other in others {
-        if !clause.resolves_to_tautology(other.occurrence(), lit) {
+        if !against.resolves_to_tautology(other.occurrence()) {
             return false;
         }
     }

@@ -2,7 +2,8 @@
 //!
 //! `first_blocked` gives the least clause, by its number, that is blocked on its literal of the variable, and None exactly where
 //! there is none or where a clause of the variable is a tautology. Where the cell has all clauses of the variable, that is the least
-//! among all clauses, as the laws say. The search lists the clauses of each sign, as loans: a clause is shared only once it is found.
+//! among all clauses, as the laws say. The clauses of each sign are listed by the caller, as loans: a clause is shared only once it is
+//! found.
 #![tactic(auto)]
 
 mod blocking;

@@ -4,7 +4,7 @@ ghost use Rattle.cp_logic.specs.Clauses.{has_variable};
 
 use crate::first_blocked;
 use cp_logic::{Clause, Entry, Lit, Named};
-use cp_occ::{Cell, Place};
+use cp_occ::{Cell, Place, Sides};
 use std::alloc::{AllocError, Global};
 use std::test::Fail;
 
@@ -24,7 +24,8 @@ fn blocked_clauses(rt: HostRuntime) -> Result<(), Fail> {
     ];
     for (var, clauses, expected) in rows {
         let cell = cell_of(rt.alloc(), var, clauses)?;
-        let found = first_blocked(rt.alloc(), &cell)?;
+        let sides = Sides::of(rt.alloc(), &cell)?;
+        let found = first_blocked(&sides)?;
         assert_eq!(rt; text_of(rt.alloc(), found)?.as_str(), expected);
     }
     Ok(())

@@ -57,13 +57,6 @@ module _ (cs : List Named) (rules : Rules) (next x : ℕ) where
   pub is-of-two : (d : Entry) → None ≡ taut → Some d ≡ option_or subsumption strengthening → Some d ≡ first_in cs rules next x
   is-of-two d t s = here (first_in cs rules next x) (option_or subsumption strengthening) (option_or blocked eliminated) d (two t) s
 
-  after-two : None ≡ taut → None ≡ option_or subsumption strengthening → first_in cs rules next x ≡ option_or blocked eliminated
+  -- and last a blocked clause or the elimination
+  pub after-two : None ≡ taut → None ≡ option_or subsumption strengthening → first_in cs rules next x ≡ option_or blocked eliminated
   after-two t u = later (first_in cs rules next x) (option_or subsumption strengthening) (option_or blocked eliminated) (two t) u
-
-  -- then a blocked clause
-  pub is-blocked : (d : Entry) → None ≡ taut → None ≡ option_or subsumption strengthening → Some d ≡ blocked → Some d ≡ first_in cs rules next x
-  is-blocked d t u s = here (first_in cs rules next x) blocked eliminated d (after-two t u) s
-
-  -- and last the elimination
-  pub after-blocked : None ≡ taut → None ≡ option_or subsumption strengthening → None ≡ blocked → eliminated ≡ first_in cs rules next x
-  after-blocked t u b = sym (later (first_in cs rules next x) blocked eliminated (after-two t u) b)

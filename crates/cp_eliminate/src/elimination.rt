@@ -8,9 +8,9 @@
 //! as rounds go by. Here the bound is by how many clauses the step may add more than it takes out, tautologies not counted.
 //!
 //! Most tries fail, so a try must be cheap. As in those solvers the resolvents are counted before any is built: a pair is told to
-//! give a tautology by one pass over both clauses with no memory taken, and the count stops at the first resolvent above the bound,
-//! so that a variable that occurs often costs about as many pairs as it has clauses, tautologies apart. The two sides are split
-//! once, as loans from the cell, and a clause is shared only for an elimination that goes through. MiniSat and CaDiCaL also refuse
+//! give a tautology by one pass over the second clause with no memory taken, and the count stops at the first resolvent above the bound,
+//! so that a variable that occurs often costs about as many pairs as it has clauses, tautologies apart. The caller lists the two
+//! sides, as loans from the cell, and a clause is shared only for an elimination that goes through. MiniSat and CaDiCaL also refuse
 //! where a resolvent is long, and CaDiCaL where the variable occurs very often; no such limit is in the rules here, so that what is
 //! eliminated depends on the clauses and the bound alone. CaDiCaL looks for definitions of the variable (gates) besides, and leaves
 //! out resolvents that others imply; here they are added, and count against the bound. A variable that occurs in one sign only has
@@ -25,7 +25,7 @@ ghost use Rattle.cp_eliminate.specs.Eliminating.{elimination_within, is_within};
 use crate::lent::seconds;
 use crate::resolvents::{are_at_most, numbered_resolvents};
 use cp_logic::Entry;
-use cp_occ::{Cell, Lent};
+use cp_occ::{Lent, Sides};
 use std::alloc::{AllocError, Global};
 
 /// The elimination of the cell's variable, its resolvents numbered from `next` on; or `None` where the cell has no clause or a
@@ -34,25 +34,26 @@ use std::alloc::{AllocError, Global};
 /// The error comes for want of memory, which is also the answer where a resolvent's number would pass a `u64`.
 pub fn try_eliminate(
     alloc: Global,
-    cell: &Cell,
+    sides: &Sides<'_>,
     bound: u64,
     next: u64,
 ) -> Result<Option<Entry>, AllocError>
     requires { next ≤ 2 ^ 40 }
-    ensures { IfOk result (λ o. option_map entry_of o ≡ elimination_within cell.now.clauses bound next cell.now.variable) }
+    ensures { IfOk result (λ o. option_map entry_of o ≡ elimination_within sides.now.clauses bound next sides.now.variable) }
 {
+    let cell = sides.cell();
     let var = cell.var();
     if cell.has_tautology() {
         return Ok(None);
     }
-    let pos = cell.pos().gathered(alloc)?;
-    let neg = cell.neg().gathered(alloc)?;
-    if !is_within(&pos, &neg, var, bound) {
+    let pos = sides.pos();
+    let neg = sides.neg();
+    if !is_within(pos, neg, var, bound) {
         return Ok(None);
     }
-    let new = numbered_resolvents(alloc, &pos, &neg, var, next)?;
-    let pos = seconds(alloc, &pos)?;
-    let neg = seconds(alloc, &neg)?;
+    let new = numbered_resolvents(alloc, pos, neg, var, next)?;
+    let pos = seconds(alloc, pos)?;
+    let neg = seconds(alloc, neg)?;
     Ok(Some(Entry::Eliminate { var, pos, neg, new }))
 }
 

@@ -16,7 +16,7 @@ use crate::elimination::try_eliminate;
 use cp_blocked::first_blocked;
 use cp_find::{Reached, next_strengthened, next_subsumed, next_taut};
 use cp_logic::{Entry, Rules};
-use cp_occ::Cell;
+use cp_occ::{Cell, Sides};
 use std::alloc::{AllocError, Global};
 
 /// The first entry of the chosen techniques at the cell's variable, or `None` where none applies there. New clauses are numbered
@@ -41,10 +41,7 @@ pub fn search(
     if let Some(entry) = chosen_of_two(alloc, cell, rules, next, reached)? {
         return Ok(Some(entry));
     }
-    if let Some(entry) = chosen_blocked(alloc, cell, rules)? {
-        return Ok(Some(entry));
-    }
-    chosen_elimination(alloc, cell, rules, next)
+    chosen_of_sides(alloc, cell, rules, next)
 }
 
 fn chosen_taut(
@@ -117,26 +114,48 @@ fn chosen_strengthening(
     next_strengthened(alloc, cell, next, reached)
 }
 
-fn chosen_blocked(alloc: Global, cell: &Cell, rules: &Rules) -> Result<Option<Entry>, AllocError>
-    ensures { IfOk result (λ found. option_map entry_of found ≡ where_chosen rules.now.choice.b (first_of_kind cell.now.variable cell.now.clauses (blocks cell.now.clauses))) }
-{
-    if !rules.choice.b {
-        return Ok(None);
-    }
-    first_blocked(alloc, cell)
-}
-
-fn chosen_elimination(
+// A blocked clause, or else the elimination. Both go by the clauses of each sign, which are listed once.
+fn chosen_of_sides(
     alloc: Global,
     cell: &Cell,
     rules: &Rules,
     next: u64,
 ) -> Result<Option<Entry>, AllocError>
     requires { next ≤ 2 ^ 40 }
-    ensures { IfOk result (λ found. option_map entry_of found ≡ where_chosen rules.now.choice.e (elimination_within cell.now.clauses rules.now.bound next cell.now.variable)) }
+    ensures { IfOk result (λ found. option_map entry_of found ≡ option_or
+        (where_chosen rules.now.choice.b (first_of_kind cell.now.variable cell.now.clauses (blocks cell.now.clauses)))
+        (where_chosen rules.now.choice.e (elimination_within cell.now.clauses rules.now.bound next cell.now.variable))) }
+{
+    if !rules.choice.b && !rules.choice.e {
+        return Ok(None);
+    }
+    let sides = Sides::of(alloc, cell)?;
+    if let Some(entry) = chosen_blocked(&sides, rules)? {
+        return Ok(Some(entry));
+    }
+    chosen_elimination(alloc, &sides, rules, next)
+}
+
+fn chosen_blocked(sides: &Sides<'_>, rules: &Rules) -> Result<Option<Entry>, AllocError>
+    ensures { IfOk result (λ found. option_map entry_of found ≡ where_chosen rules.now.choice.b (first_of_kind sides.now.variable sides.now.clauses (blocks sides.now.clauses))) }
+{
+    if !rules.choice.b {
+        return Ok(None);
+    }
+    first_blocked(sides)
+}
+
+fn chosen_elimination(
+    alloc: Global,
+    sides: &Sides<'_>,
+    rules: &Rules,
+    next: u64,
+) -> Result<Option<Entry>, AllocError>
+    requires { next ≤ 2 ^ 40 }
+    ensures { IfOk result (λ found. option_map entry_of found ≡ where_chosen rules.now.choice.e (elimination_within sides.now.clauses rules.now.bound next sides.now.variable)) }
 {
     if !rules.choice.e {
         return Ok(None);
     }
-    try_eliminate(alloc, cell, rules.bound, next)
+    try_eliminate(alloc, sides, rules.bound, next)
 }

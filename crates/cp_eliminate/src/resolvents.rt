@@ -9,7 +9,7 @@ ghost use Rattle.cp_logic.specs.Resolvents.{resolvents_by};
 ghost use Rattle.cp_eliminate.specs.Sides.{Has};
 
 use cp_logic::{Lit, Named, NamedList};
-use cp_occ::Lent;
+use cp_occ::{Against, Lent};
 use std::alloc::{AllocError, Global};
 
 // Whether the resolvents of the two lists that are no tautologies are at most so many. It stops at the first one above.
@@ -34,9 +34,10 @@ fn left_after(clause: &Lent<'_>, neg: &[Lent<'_>], lit: Lit, most: u128) -> Opti
     ensures some { IfSome result (λ left. left + length (resolvents_by lit clause.now.clause neg.now) ≡ most) }
     ensures none { IfNone result (most < length (resolvents_by lit clause.now.clause neg.now)) }
 {
+    let mut against = Against::new(clause.occurrence(), lit);
     let mut left = most;
-    for second in neg {
-        if !clause.resolves_to_tautology(second, lit) {
+    for other in neg {
+        if !against.resolves_to_tautology(other.occurrence()) {
             left = left.checked_sub(1)?;
         }
     }
@@ -81,9 +82,10 @@ fn add_resolvents(
 {
     let lit = Lit::new(var, true);
     let clause = first.clause();
+    let mut against = Against::new(first.occurrence(), lit);
     for second in neg {
         let other = second.clause();
-        if !first.resolves_to_tautology(second, lit) {
+        if !against.resolves_to_tautology(second.occurrence()) {
             let number = next.checked_add(new.len() as u64).ok_or(AllocError)?;
             let built = clause.resolve(alloc, other, var)?;
             new.push(Named {

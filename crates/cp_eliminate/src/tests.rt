@@ -5,7 +5,7 @@ ghost use Rattle.cp_logic.specs.Clauses.{has_variable};
 use crate::{search, try_eliminate};
 use cp_find::Reached;
 use cp_logic::{Choice, Clause, Entry, Lit, Named, NamedList, Rules};
-use cp_occ::{Cell, Place};
+use cp_occ::{Cell, Place, Sides};
 use std::alloc::{AllocError, Global};
 use std::test::Fail;
 
@@ -46,7 +46,8 @@ fn eliminations(rt: HostRuntime) -> Result<(), Fail> {
     ];
     for (clauses, bound, next, expected) in rows {
         let cell = cell_of(rt.alloc(), clauses)?;
-        let found = try_eliminate(rt.alloc(), &cell, bound, next)?;
+        let sides = Sides::of(rt.alloc(), &cell)?;
+        let found = try_eliminate(rt.alloc(), &sides, bound, next)?;
         assert_eq!(rt; text_of(rt.alloc(), found)?.as_str(), expected);
     }
     Ok(())

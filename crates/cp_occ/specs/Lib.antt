@@ -3,3 +3,5 @@ pub mod Lending
 pub mod Changes
 pub mod Silence
 pub mod Bits
+pub mod Against
+pub mod Sides

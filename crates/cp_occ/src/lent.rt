@@ -1,9 +1,8 @@
 //! Clauses that a cell lends.
 ghost use Rattle.std.specs.Prelude.{◌≡◌, IfOk};
-ghost use Rattle.cp_logic.specs.Clauses.{is_tautology, resolvent};
 
 use crate::occurrence::Occurrence;
-use cp_logic::{Clause, Lit, Named};
+use cp_logic::{Clause, Named};
 use std::alloc::AllocError;
 use std::marker::Model;
 
@@ -33,14 +32,6 @@ impl<'a> Lent<'a> {
         ensures { result.now ≡ self.now.clause }
     {
         self.occurrence.clause()
-    }
-
-    /// Whether the resolvent of this clause on the literal and of another on its negation is a tautology. The bits exclude most
-    /// pairs, and then no literal is read.
-    pub fn resolves_to_tautology(&self, other: &Lent<'_>, lit: Lit) -> bool
-        ensures { result ≡ is_tautology (resolvent lit self.now.clause other.now.clause) }
-    {
-        self.occurrence.resolves_to_tautology(other.occurrence, lit)
     }
 
     /// What the cell keeps of the clause.

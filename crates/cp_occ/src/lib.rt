@@ -4,6 +4,7 @@
 //! in each cell what `specs/Changes` says of the entry (`lists_after`); all its memory is taken by `prepare`.
 #![tactic(auto)]
 
+mod against;
 mod bits;
 mod cell;
 mod cells;
@@ -13,11 +14,13 @@ mod iter;
 mod lent;
 mod occurrence;
 mod place;
+mod sides;
 mod silence;
 #[cfg(test)]
 mod tests;
 mod variables;
 
+pub use against::Against;
 pub use cell::Cell;
 pub use cells::Cells;
 pub use changes::Prepared;
@@ -25,6 +28,7 @@ pub use iter::{CellIter, LiteralIter, Occurrences};
 pub use lent::Lent;
 pub use occurrence::Occurrence;
 pub use place::Place;
+pub use sides::Sides;
 
 // Places and cells may be shared by threads and moved between them.
 fn may_cross_threads<T: Send + Sync>() {}

@@ -86,16 +86,9 @@ impl Occurrence {
         self.clause.contains(lit)
     }
 
-    /// Whether the resolvent of this clause on the literal and of another on its negation is a tautology. The bits exclude most
-    /// pairs, and then no literal is read.
-    pub fn resolves_to_tautology(&self, other: &Occurrence, lit: Lit) -> bool
-        ensures { result ≡ is_tautology (resolvent lit self.now.clause other.now.clause) }
-    {
-        !self.is_apart(other, lit) && self.clause.resolves_to_tautology(&other.clause, lit)
-    }
-
-    // Whether the bits tell that the resolvent is no tautology.
-    fn is_apart(&self, other: &Occurrence, lit: Lit) -> bool
+    /// Whether the bits tell that the resolvent of this clause on the literal, and of another on its negation, is no tautology. No
+    /// literal is read.
+    pub(crate) fn is_apart(&self, other: &Occurrence, lit: Lit) -> bool
         ensures { IsTrue result → is_tautology (resolvent lit self.now.clause other.now.clause) ≡ false }
     {
         if self.tautology || other.tautology {

@@ -1,6 +1,10 @@
 //! Calls with ample memory. What an entry does to the cells is seen in the runs above this crate.
-use crate::{Cell, Cells, Place};
+ghost use Rattle.std.specs.Prelude.{◌≡◌};
+ghost use Rattle.cp_logic.specs.Clauses.{has_variable};
+
+use crate::{Against, Cell, Cells, Occurrence, Place};
 use cp_logic::{Choice, Clause, Formula, Lit, Rules};
+use std::alloc::{AllocError, Global};
 use std::test::Fail;
 
 #[test]
@@ -29,6 +33,24 @@ fn cells_are_gone_over_by_literal(rt: HostRuntime) -> Result<(), Fail> {
     assert_eq!(rt; cell.get(0).map(|found| found.0), Some(5));
     assert!(rt; cell.remove(5).is_some());
     assert!(rt; cell.is_empty());
+    Ok(())
+}
+
+#[test]
+fn one_clause_is_asked_against_many(rt: HostRuntime) -> Result<(), Fail> {
+    let clause: &[i32] = &[1, 2, 3, 4, 5, 6, 7, 8, 9, 10, 11, 12];
+    let others: [(&[i32], bool); 4] = [
+        (&[-1, -12, 21, 22, 23, 24, 25, 26, 27, 28], true),
+        (&[-1, -21, -22, -23, -24, -25, -26, -27, -28], false),
+        (&[-1, 12, 13, -14], false),
+        (&[-1, -2], true),
+    ];
+    let first = occurrence_of(rt.alloc(), clause)?;
+    let mut against = Against::new(&first, Lit::new(1, true));
+    for (literals, expected) in others {
+        let other = occurrence_of(rt.alloc(), literals)?;
+        assert_eq!(rt; against.resolves_to_tautology(&other), expected);
+    }
     Ok(())
 }
 
@@ -90,4 +112,24 @@ fn cells_list_the_clauses_of_their_variables(rt: HostRuntime) -> Result<(), Fail
     }
     assert_eq!(rt; seen.as_slice(), lengths.as_slice());
     Ok(())
+}
+
+// The occurrence in the cell of variable 1 of the clause of these literals, as DIMACS writes them. They have the variable.
+fn occurrence_of(alloc: Global, literals: &[i32]) -> Result<Occurrence, AllocError> {
+    let mut lits = Vec::new(alloc);
+    for literal in literals {
+        let var = literal.unsigned_abs().max(1).min(2_000_000);
+        lits.push(Lit::new(var, *literal > 0))?;
+    }
+    let clause = Clause::from_lits(alloc, lits.as_slice())?;
+    if has_variable(&clause, 1) {
+        return Ok(Occurrence::new(1, Place::new(alloc, clause)?, 1));
+    }
+    Err(AllocError)
+}
+
+fn has_variable(clause: &Clause, var: u32) -> bool
+    ensures { result ≡ has_variable var clause.now }
+{
+    clause.lits().iter().any(|lit| lit.var() == var)
 }

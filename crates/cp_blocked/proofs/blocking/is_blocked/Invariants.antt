@@ -6,4 +6,8 @@ use Rattle.cp_blocked.proofs.blocking.is_blocked.Given as goal
 
 -- the resolvents with all others are tautologies where those with the ones that are left are
 abbrev pub invariant-loop-other : goal.invariant-loop-other
-invariant-loop-other l = list_all (λ (d : Named). is_tautology (resolvent l.lit l.clause.clause d.clause)) (drop l.other-index l.others) ≡ list_all (λ (d : Named). is_tautology (resolvent l.lit l.clause.clause d.clause)) l.others
+invariant-loop-other l =
+    record {
+      same : l.against ≡ record { clause = l.clause.clause; literal = l.fn.lit };
+      left : list_all (λ (d : Named). is_tautology (resolvent l.fn.lit l.clause.clause d.clause)) (drop l.other-index l.others) ≡ list_all (λ (d : Named). is_tautology (resolvent l.fn.lit l.clause.clause d.clause)) l.others;
+    }

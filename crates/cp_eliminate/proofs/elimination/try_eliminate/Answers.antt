@@ -1,10 +1,12 @@
-use Rattle.std.proofs.Common.{◌≡◌, ◌∙◌, ℕ, List, Some, sym, ap, subst}
-use Rattle.std.specs.List.{All}
+use Rattle.std.proofs.Common.{◌≡◌, ◌∙◌, ℕ, Bool, List, Some, sym, ap, subst}
+use Rattle.std.specs.List.{All, list_any}
 use Rattle.cp_logic.specs.declared.named.Named.{Named}
 use Rattle.cp_logic.specs.Literals.{positive, negative}
 use Rattle.cp_logic.specs.Entries.{Eliminate, numbered_from}
-use Rattle.cp_logic.specs.Legality.{resolvents}
-use Rattle.cp_occ.proofs.Having.{cell-have}
+use Rattle.cp_logic.specs.Clauses.{is_tautology}
+use Rattle.cp_logic.specs.Legality.{resolvents, has_tautology_at}
+use Rattle.cp_occ.specs.Cells.{CellView, IsCell}
+use Rattle.cp_occ.proofs.Having.{AllHave, cell-have}
 use Rattle.cp_eliminate.specs.Eliminating.{is_within}
 use Rattle.cp_eliminate.specs.Sides.{Has}
 use Rattle.cp_eliminate.proofs.Fitting.{tautology-at, none-tautology, none-beyond, some-within, have-literal}
@@ -24,43 +26,57 @@ same_entry x y pos p neg n new w e f g h =
 have-same : (l k : ℕ) (cs ds : List Named) → cs ≡ ds → k ≡ l → All (Has l) cs → All (Has k) ds
 have-same l k cs ds e f h = subst (λ m. All (Has m) ds) (sym f) (subst (All (Has l)) e h)
 
+-- each clause of a cell that is the same has the variable
+have_same : (cell same : CellView) → same ≡ cell → IsCell same → AllHave cell.variable cell.clauses
+have_same cell same e v = cell-have cell (subst IsCell e v)
+
+variable_same : (cell same : CellView) → same ≡ cell → same.variable ≡ cell.variable
+variable_same cell same e = ap (λ (k : CellView). k.variable) e
+
+-- whether it has a tautology
+tautology_same : (cell same : CellView) (b : Bool) → same ≡ cell → IsCell same → b ≡ list_any (λ (n : Named). is_tautology n.clause) same.clauses
+    → has_tautology_at cell.clauses cell.variable ≡ b
+tautology_same cell same b e v t =
+    sym (tautology-at cell.variable cell.clauses (have_same cell same e v)) ∙ ap (λ (k : CellView). list_any (λ (n : Named). is_tautology n.clause) k.clauses) (sym e) ∙ sym t
+
 pub returns-then-has_tautology : goal.returns-then-has_tautology
 returns-then-has_tautology c =
-    let cell = c.args.cell.now in
+    let cell = c.args.sides.now in
     none-tautology cell.clauses c.args.bound c.args.next cell.variable
-    (sym (tautology-at cell.variable cell.clauses (cell-have cell c.var-var.ensures.valid)) ∙ sym c.has_tautology.ensures ∙ c.if-has_tautology.true)
+    (tautology_same cell c.cell-cell.result.now c.has_tautology.result c.cell-cell.ensures c.var-var.ensures.valid c.has_tautology.ensures ∙ c.if-has_tautology.true)
 
 pub returns-then-not-is_within : goal.returns-then-not-is_within
 returns-then-not-is_within c =
-    let cell = c.args.cell.now in
+    let cell = c.args.sides.now in
     none-beyond cell.clauses c.args.bound c.args.next cell.variable
-    (sym (same_test cell.variable c.var-var.result c.args.bound _ c.deref.result.now _ c.deref-2.result.now c.var-var.ensures.value
-    (c.deref.ensures.value ∙ c.in_ok-pos.ensures ∙ c.pos.ensures) (c.deref-2.ensures.value ∙ c.in_ok-neg.ensures ∙ c.neg.ensures))
+    (sym (same_test cell.variable c.var-var.result c.args.bound _ c.pos-pos.result.now _ c.neg-neg.result.now
+    (c.var-var.ensures.value ∙ variable_same cell c.cell-cell.result.now c.cell-cell.ensures) c.pos-pos.ensures c.neg-neg.ensures)
     ∙ sym c.is_within.ensures ∙ c.if-not-is_within.true)
 
 pub numbered_resolvents-requires-clause-have : goal.numbered_resolvents-requires-clause-have
 numbered_resolvents-requires-clause-have c =
-    let cell = c.args.cell.now in
-    have-same (positive cell.variable) (positive c.var-var.result) _ c.deref-3.result.now (sym (c.deref-3.ensures.value ∙ c.in_ok-pos.ensures ∙ c.pos.ensures)) (ap positive c.var-var.ensures.value)
+    let cell = c.args.sides.now in
+    have-same (positive cell.variable) (positive c.var-var.result) _ c.pos-pos.result.now (sym c.pos-pos.ensures)
+    (ap positive (c.var-var.ensures.value ∙ variable_same cell c.cell-cell.result.now c.cell-cell.ensures))
     (have-literal cell.clauses (positive cell.variable))
 
 pub numbered_resolvents-requires-clause-others_have :
     goal.numbered_resolvents-requires-clause-others_have
 numbered_resolvents-requires-clause-others_have c =
-    let cell = c.args.cell.now in
-    have-same (negative cell.variable) (negative c.var-var.result) _ c.deref-4.result.now (sym (c.deref-4.ensures.value ∙ c.in_ok-neg.ensures ∙ c.neg.ensures)) (ap negative c.var-var.ensures.value)
+    let cell = c.args.sides.now in
+    have-same (negative cell.variable) (negative c.var-var.result) _ c.neg-neg.result.now (sym c.neg-neg.ensures)
+    (ap negative (c.var-var.ensures.value ∙ variable_same cell c.cell-cell.result.now c.cell-cell.ensures))
     (have-literal cell.clauses (negative cell.variable))
 
 pub returns : goal.returns
 returns c =
-    let cell = c.args.cell.now in
-    same_entry cell.variable c.var-var.result _ c.in_ok-pos-2.pos.items _ c.in_ok-neg-2.neg.items _ c.in_ok-new.new.items c.var-var.ensures.value
-    (c.in_ok-pos-2.ensures ∙ c.deref-5.ensures.value ∙ c.in_ok-pos.ensures ∙ c.pos.ensures)
-    (c.in_ok-neg-2.ensures ∙ c.deref-6.ensures.value ∙ c.in_ok-neg.ensures ∙ c.neg.ensures)
-    (c.in_ok-new.ensures ∙ ap (numbered_from c.args.next) (same_resolvents cell.variable c.var-var.result _ c.deref-3.result.now _ c.deref-4.result.now c.var-var.ensures.value
-    (c.deref-3.ensures.value ∙ c.in_ok-pos.ensures ∙ c.pos.ensures) (c.deref-4.ensures.value ∙ c.in_ok-neg.ensures ∙ c.neg.ensures)))
+    let cell = c.args.sides.now in
+    let variable : c.var-var.result ≡ cell.variable = c.var-var.ensures.value ∙ variable_same cell c.cell-cell.result.now c.cell-cell.ensures in
+    same_entry cell.variable c.var-var.result _ c.in_ok-pos.pos.items _ c.in_ok-neg.neg.items _ c.in_ok-new.new.items variable
+    (c.in_ok-pos.ensures ∙ c.pos-pos.ensures)
+    (c.in_ok-neg.ensures ∙ c.neg-neg.ensures)
+    (c.in_ok-new.ensures ∙ ap (numbered_from c.args.next) (same_resolvents cell.variable c.var-var.result _ c.pos-pos.result.now _ c.neg-neg.result.now variable c.pos-pos.ensures c.neg-neg.ensures))
     ∙ some-within cell.clauses c.args.bound c.args.next cell.variable
-    (sym (tautology-at cell.variable cell.clauses (cell-have cell c.var-var.ensures.valid)) ∙ sym c.has_tautology.ensures ∙ c.if-has_tautology.false)
-    (sym (same_test cell.variable c.var-var.result c.args.bound _ c.deref.result.now _ c.deref-2.result.now c.var-var.ensures.value
-    (c.deref.ensures.value ∙ c.in_ok-pos.ensures ∙ c.pos.ensures) (c.deref-2.ensures.value ∙ c.in_ok-neg.ensures ∙ c.neg.ensures))
+    (tautology_same cell c.cell-cell.result.now c.has_tautology.result c.cell-cell.ensures c.var-var.ensures.valid c.has_tautology.ensures ∙ c.if-has_tautology.false)
+    (sym (same_test cell.variable c.var-var.result c.args.bound _ c.pos-pos.result.now _ c.neg-neg.result.now variable c.pos-pos.ensures c.neg-neg.ensures)
     ∙ sym c.is_within.ensures ∙ c.if-not-is_within.false)

@@ -1,13 +1,13 @@
 use Rattle.std.proofs.Common.{◌≡◌, Option, Some, None, sym, ◌∙◌, ap}
-use Rattle.std.specs.Option.{option_map}
+use Rattle.std.specs.Option.{option_map, option_or}
 use Rattle.std.proofs.lemmas.Result.{IfOk-weaker}
 use Rattle.cp_logic.specs.declared.entries.Entry.{Entry as HeldEntry}
 use Rattle.cp_logic.specs.Entries.{Entry}
-use Rattle.cp_logic.specs.Legality.{first_in}
+use Rattle.cp_logic.specs.Legality.{first_in, blocks, first_of_kind}
 use Rattle.cp_logic.specs.Views.{entry_of}
 use Rattle.cp_find.specs.Chosen.{where_chosen}
 use Rattle.cp_eliminate.specs.Eliminating.{elimination_within}
-use Rattle.cp_eliminate.proofs.Searching.{is-taut, is-of-two, is-blocked, after-blocked}
+use Rattle.cp_eliminate.proofs.Searching.{is-taut, is-of-two, after-two}
 use Rattle.cp_eliminate.proofs.kinds.search.Goals as goal
 
 -- what a kind gave, as what it is
@@ -26,19 +26,13 @@ returns-in-Some-2-clause-found c = is-of-two c.args.cell.now.clauses c.args.rule
     (nothing c.in_ok-entry.field-0 _ c.in_default.is c.in_ok-entry.ensures.found)
     (found c.in_ok-entry-2.field-0 c.in-Some-2.entry _ c.in-Some-2.is c.in_ok-entry-2.ensures.found)
 
-pub returns-in-Some-3-clause-found : goal.returns-in-Some-3-clause-found
-returns-in-Some-3-clause-found c = is-blocked c.args.cell.now.clauses c.args.rules.now c.args.next c.args.cell.now.variable (entry_of c.in-Some-3.entry)
-    (nothing c.in_ok-entry.field-0 _ c.in_default.is c.in_ok-entry.ensures.found)
-    (nothing c.in_ok-entry-2.field-0 _ c.in_default-2.is c.in_ok-entry-2.ensures.found)
-    (found c.in_ok-entry-3.field-0 c.in-Some-3.entry _ c.in-Some-3.is c.in_ok-entry-3.ensures)
-
 pub returns-clause-found : goal.returns-clause-found
 returns-clause-found c =
     let x = c.args.cell.now.variable in let cs = c.args.cell.now.clauses in
-    IfOk-weaker c.chosen_elimination.result (λ found. option_map entry_of found ≡ where_chosen c.args.rules.now.choice.e (elimination_within cs c.args.rules.now.bound c.args.next x))
+    IfOk-weaker c.chosen_of_sides.result (λ found. option_map entry_of found ≡ option_or
+    (where_chosen c.args.rules.now.choice.b (first_of_kind x cs (blocks cs))) (where_chosen c.args.rules.now.choice.e (elimination_within cs c.args.rules.now.bound c.args.next x)))
     (λ found. option_map entry_of found ≡ first_in cs c.args.rules.now c.args.next x)
-    (λ found h. h ∙ after-blocked cs c.args.rules.now c.args.next x
+    (λ found h. h ∙ sym (after-two cs c.args.rules.now c.args.next x
     (nothing c.in_ok-entry.field-0 _ c.in_default.is c.in_ok-entry.ensures.found)
-    (nothing c.in_ok-entry-2.field-0 _ c.in_default-2.is c.in_ok-entry-2.ensures.found)
-    (nothing c.in_ok-entry-3.field-0 _ c.in_default-3.is c.in_ok-entry-3.ensures))
-    c.chosen_elimination.ensures
+    (nothing c.in_ok-entry-2.field-0 _ c.in_default-2.is c.in_ok-entry-2.ensures.found)))
+    c.chosen_of_sides.ensures
