@@ -28,16 +28,13 @@ use std::marker::Model;
 const PER_BUCKET: usize = 4;
 
 // Of so few clauses all pairs are told, which costs less than to fill buckets and to choose among them.
-const FEW: usize = 32;
+const FEW: usize = 16;
 
 // The same is so where there are at most so many times as many clauses as literals in one of them.
 const MOST_TIMES: usize = 8;
 
 // But where the clauses are longer than this on average, most bits of their signatures are set, which then exclude little.
 const SHORT: usize = 16;
-
-// The length of so many clauses stands for that of all. They are fewer than those for which no bucket is filled.
-const SAMPLED: usize = 8;
 
 // So few candidates are compared in the time that it takes to look for a shorter bucket.
 const ENOUGH: usize = 4;
@@ -248,21 +245,23 @@ fn place(lit: Lit, count: u32) -> usize
 // How many buckets to fill for the cell's clauses, if any.
 fn bucket_count(cell: &Cell) -> u32 {
     let clauses = cell.len();
-    let length = usual_length(cell);
-    if length <= SHORT && clauses / MOST_TIMES <= length {
+    if clauses <= FEW {
         return 0;
     }
-    let count = clauses.saturating_mul(length) / PER_BUCKET;
-    u32::try_from(count).unwrap_or(u32::MAX)
+    let literals = literal_count(cell);
+    if literals / clauses <= SHORT && clauses / MOST_TIMES <= literals / clauses {
+        return 0;
+    }
+    u32::try_from(literals / PER_BUCKET).unwrap_or(u32::MAX)
 }
 
-// How many literals a clause has, going by the first ones.
-fn usual_length(cell: &Cell) -> usize {
-    let mut literals = 0_usize;
-    for (_, clause) in cell.iter().take(SAMPLED) {
-        literals = literals.saturating_add(clause.lits().len());
+// How many literals the clauses have together.
+fn literal_count(cell: &Cell) -> usize {
+    let mut count = 0_usize;
+    for (_, clause) in cell.iter() {
+        count = count.saturating_add(clause.lits().len());
     }
-    literals / SAMPLED
+    count
 }
 
 // Enters the cell's clauses into the first so many buckets, and into no others.

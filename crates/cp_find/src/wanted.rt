@@ -110,6 +110,10 @@ fn first_subsumed<'b>(by: &Occurrence, others: Occurrences<'b>) -> Option<&'b Oc
     ensures { option_map (λ o. o.now) result ≡ find (subsumes by.now) others.entry }
 {
     for other in others {
+        // It passes over nearly all.
+        if !by.may_subsume(other) {
+            continue;
+        }
         if subsumes(by, other) {
             return Some(other);
         }
@@ -127,6 +131,10 @@ fn first_strengthened<'b>(
     ensures { option_map (λ o. o.now) result ≡ find (strengthens lit by.now) others.entry }
 {
     for other in others {
+        // It passes over nearly all.
+        if !by.may_strengthen(other, lit.negated()) {
+            continue;
+        }
         if strengthens(by, other, lit) {
             return Some(other);
         }
