@@ -1,13 +1,15 @@
 -- Lookups cover the clauses that they were made of and those that are left of them, and what a lookup gives is the first that is met.
-use Rattle.std.proofs.Common.{◌≡◌, ℕ, ◌<◌, ◌≤◌, ◌*◌, ◌/◌, ◌^◌, Bool, true, false, cond, not, List, [], ◌∷◌, ◌++◌, length, take, get_or, slice_index_or, ◌+◌, Option, Some, None, refl, sym, ◌∙◌, ap, subst, inl, inr, arith}
-use Rattle.std.specs.Prelude.{◌==◌, ◌⊎◌, nat_le, slice_set, IsTrue, IfNone}
+use Rattle.std.proofs.Common.{◌≡◌, ℕ, ◌<◌, ◌≤◌, ◌*◌, ◌^◌, Bool, true, false, cond, not, List, [], ◌∷◌, ◌++◌, length, take, get_or, slice_index_or, ◌+◌, ◌%◌, Option, Some, None, refl, sym, ◌∙◌, ap, subst, inl, inr, arith}
+use Rattle.std.specs.Prelude.{◌==◌, ◌⊎◌, nat_le, ◌≢◌, slice_set, IsTrue, IfNone}
 use Rattle.std.specs.List.{Contains, find}
 use Rattle.std.proofs.lemmas.Bool.{and_parts, false≢true, false_from_ne_true, cases_eq}
 use Rattle.std.proofs.lemmas.Bool.Decides.{nat_tests}
-use Rattle.std.proofs.lemmas.Nat.{mod_below}
+use Rattle.std.proofs.lemmas.Nat.{mod_below, div_below}
+use Rattle.std.proofs.Math.Nat.{mul-lt-mul_of_pos_left}
 use Rattle.std.proofs.lemmas.List.{take_more, get_or-set_same, get_or-set_other, get_or_default}
 use Rattle.std.proofs.lemmas.List.Elements.{Contains-append_cases}
 use Rattle.cp_logic.specs.declared.named.Named.{Named}
+use Rattle.cp_logic.specs.Literals.{variable_of}
 use Rattle.cp_logic.specs.Clauses.{is_subset, IsAscending}
 use Rattle.cp_logic.specs.Formulas.{numbers_of}
 use Rattle.cp_logic.proofs.Members.{none_in, in_here, in_later, in_cases, in_map, in_filter, of_filter}
@@ -15,31 +17,31 @@ use Rattle.cp_logic.proofs.SetFacts.{subset-in}
 use Rattle.cp_logic.proofs.Ascending.{below_others, IsAscending-numbers}
 use Rattle.cp_logic.proofs.Locals.{find_none}
 use Rattle.cp_occ.specs.Cells.{from_number}
-use Rattle.cp_find.specs.declared.wanted.Signed.{Signed}
+use Rattle.cp_find.specs.declared.lookup.Signed.{Signed}
 use Rattle.cp_find.specs.Finds.{subsumes}
-use Rattle.cp_find.specs.Lookups.{LookupView, signed, place, AreListed, Keeps, Covers, Serves, IsMet, is_up_to, IsBest}
+use Rattle.cp_find.specs.Lookups.{WantedView, LookupView, signed, place, AreListed, Keeps, Covers, Serves, IsMet, is_up_to, IsBest}
 
 -- ---- what is covered
 
 -- with no bucket in use there is nothing to show
-pub covers-nothing : (cs : List Named) (lookup : LookupView) → lookup.count ≡ 0 → Covers cs lookup
-covers-nothing cs lookup e = λ c i p. absurd (omega (arith, e, p))
+pub covers-nothing : (x : ℕ) (cs : List Named) (lookup : LookupView) → lookup.count ≡ 0 → Covers x cs lookup
+covers-nothing x cs lookup e = λ c i p. absurd (omega (arith, e, p))
 
 -- what covers some clauses covers some of these
-pub covers-within : (cs ds : List Named) (lookup : LookupView) → ((c : Named) → Contains ds c → Contains cs c) → Covers cs lookup → Covers ds lookup
-covers-within cs ds lookup h p = λ c i. p c (h c i)
+pub covers-within : (x : ℕ) (cs ds : List Named) (lookup : LookupView) → ((c : Named) → Contains ds c → Contains cs c) → Covers x cs lookup → Covers x ds lookup
+covers-within x cs ds lookup h p = λ c i. p c (h c i)
 
 -- the bucket of a literal has the clauses with the literal
 pub bucket-has : (lookup : LookupView) (bucket : List Signed) (k lit : ℕ) → bucket ≡ slice_index_or lookup.buckets k bucket → k ≡ place lit lookup.count → 0 < lookup.count
-    → (cs : List Named) (c : Named) → Covers cs lookup → Contains cs c → Contains c.clause lit → Contains bucket (signed c)
-bucket-has lookup bucket k lit e q p cs c covers i j =
-    subst (λ (z : List Signed). Contains z (signed c)) (sym (e ∙ ap (λ n. slice_index_or lookup.buckets n bucket) q)) (covers c i p lit bucket j)
+    → (x : ℕ) (cs : List Named) (c : Named) → Covers x cs lookup → Contains cs c → Contains c.clause lit → variable_of lit ≢ x → Contains bucket (signed c)
+bucket-has lookup bucket k lit e q p x cs c covers i j n =
+    subst (λ (z : List Signed). Contains z (signed c)) (sym (e ∙ ap (λ n. slice_index_or lookup.buckets n bucket) q)) (covers c i p lit bucket j n)
 
 -- so that of a wanted literal serves
-pub serves-from : (wanted : Named) (lookup : LookupView) (list : List Signed) (lit : ℕ) → Contains wanted.clause lit
-    → ((cs : List Named) (c : Named) → Covers cs lookup → Contains cs c → Contains c.clause lit → Contains list (signed c)) → Serves wanted lookup list
-serves-from wanted lookup list lit i h = λ cs c covers j t.
-    h cs c covers j (subset-in wanted.clause c.clause (and_parts (not (wanted.number == c.number)) (is_subset wanted.clause c.clause) t).1 lit i)
+pub serves-from : (wanted : WantedView) (lookup : LookupView) (list : List Signed) (lit : ℕ) → Contains wanted.sought.clause lit → variable_of lit ≢ wanted.variable
+    → ((x : ℕ) (cs : List Named) (c : Named) → Covers x cs lookup → Contains cs c → Contains c.clause lit → variable_of lit ≢ x → Contains list (signed c)) → Serves wanted lookup list
+serves-from wanted lookup list lit i n h = λ cs c covers j t.
+    h wanted.variable cs c covers j (subset-in wanted.sought.clause c.clause (and_parts (not (wanted.sought.number == c.number)) (is_subset wanted.sought.clause c.clause) t).1 lit i) n
 
 -- ---- the clause under a number
 
@@ -159,15 +161,15 @@ same_clause d n ls e q =
 -- ---- buckets that are filled
 
 place-below : (l count : ℕ) → 0 < count → place l count < count
-place-below l count p = mod_below (l * 2654435769 / 2 ^ 16) count p
+place-below l count p = div_below (count * (l * 2654435769 % 2 ^ 32)) (2 ^ 32) count (omega arith) (mul-lt-mul_of_pos_left (mod_below (l * 2654435769) (2 ^ 32) (omega arith)) p)
 
 -- a bucket with one clause more
-pub listed-more : (count : ℕ) (old new : List (List Signed)) (ls : List ℕ) (l : ℕ) (c : Signed) → 0 < count → count ≤ length old → Keeps old new
-    → ((d : List Signed) → Contains (slice_index_or new (place l count) d) c) → AreListed count old ls c → AreListed count new (ls ++ l ∷ []) c
-listed-more count old new ls l c p w keeps here h m d i = elim (Contains-append_cases ls (l ∷ []) m i) [
-  | inl j ↦ keeps (place m count) d c (below m) (h m d j)
+pub listed-more : (x count : ℕ) (old new : List (List Signed)) (ls : List ℕ) (l : ℕ) (c : Signed) → 0 < count → count ≤ length old → Keeps old new
+    → (variable_of l ≢ x → (d : List Signed) → Contains (slice_index_or new (place l count) d) c) → AreListed x count old ls c → AreListed x count new (ls ++ l ∷ []) c
+listed-more x count old new ls l c p w keeps here h m d i n = elim (Contains-append_cases ls (l ∷ []) m i) [
+  | inl j ↦ keeps (place m count) d c (below m) (h m d j n)
   | inr j ↦ elim (in_cases m l [] j) [
-    | inl e ↦ subst (λ z. Contains (slice_index_or new (place z count) d) c) e (here d)
+    | inl e ↦ subst (λ z. Contains (slice_index_or new (place z count) d) c) e (here (λ q. n (ap variable_of (sym e) ∙ q)) d)
     | inr k ↦ absurd (none_in m k)
   ]
 ]
@@ -176,8 +178,9 @@ listed-more count old new ls l c p w keeps here h m d i = elim (Contains-append_
     below m = let less : place m count < count = place-below m count p in omega (arith, less, w)
 
 -- what was listed stays so
-pub listed-kept : (count : ℕ) (old new : List (List Signed)) (ls : List ℕ) (c : Signed) → 0 < count → count ≤ length old → Keeps old new → AreListed count old ls c → AreListed count new ls c
-listed-kept count old new ls c p w keeps h m d i = keeps (place m count) d c (let less : place m count < count = place-below m count p in omega (arith, less, w)) (h m d i)
+pub listed-kept : (x count : ℕ) (old new : List (List Signed)) (ls : List ℕ) (c : Signed) → 0 < count → count ≤ length old → Keeps old new → AreListed x count old ls c
+    → AreListed x count new ls c
+listed-kept x count old new ls c p w keeps h m d i n = keeps (place m count) d c (let less : place m count < count = place-below m count p in omega (arith, less, w)) (h m d i n)
 
 -- a bucket is written that keeps what it has
 pub put-keeps : (old : List (List Signed)) (k : ℕ) (before after : List Signed) → k < length old → before ≡ slice_index_or old k before
@@ -192,20 +195,16 @@ pub put-has : (old : List (List Signed)) (k m : ℕ) (after : List Signed) (c : 
     → (d : List Signed) → Contains (slice_index_or (slice_set old k after) m d) c
 put-has old k m after c w e i d = subst (λ (z : List Signed). Contains z c) (sym (ap (λ n. slice_index_or (slice_set old k after) n d) (sym e) ∙ get_or-set_same old k after d w)) i
 
--- where there is one bucket, it is that of each literal
-pub first_alone : (l : ℕ) → 0 ≡ place l 1
-first_alone l = let less : place l 1 < 1 = place-below l 1 (let one : 0 < 1 = omega arith in one) in omega (arith, less)
-
 -- one literal more is taken
 pub take-item : (xs : List ℕ) (i x : ℕ) → i < length xs → x ≡ get_or xs i x → take (i + 1) xs ≡ take i xs ++ x ∷ []
 take-item xs i x h e = take_more xs i x h ∙ ap (λ y. take i xs ++ y ∷ []) (sym e)
 
 -- one clause more is entered
-pub entered-next : (count : ℕ) (old new : List (List Signed)) (n : Named) (rest : List Named) (d : Named) → 0 < count → count ≤ length old → Keeps old new
-    → AreListed count new n.clause (signed n) → (Contains (n ∷ rest) d) ⊎ (AreListed count old d.clause (signed d))
-    → (Contains rest d) ⊎ (AreListed count new d.clause (signed d))
-entered-next count old new n rest d p w keeps here (inl i) = elim (in_cases d n rest i) [
-  | inl e ↦ inr (subst (λ (z : Named). AreListed count new z.clause (signed z)) e here)
+pub entered-next : (x count : ℕ) (old new : List (List Signed)) (n : Named) (rest : List Named) (d : Named) → 0 < count → count ≤ length old → Keeps old new
+    → AreListed x count new n.clause (signed n) → (Contains (n ∷ rest) d) ⊎ (AreListed x count old d.clause (signed d))
+    → (Contains rest d) ⊎ (AreListed x count new d.clause (signed d))
+entered-next x count old new n rest d p w keeps here (inl i) = elim (in_cases d n rest i) [
+  | inl e ↦ inr (subst (λ (z : Named). AreListed x count new z.clause (signed z)) e here)
   | inr j ↦ inl j
 ]
-entered-next count old new n rest d p w keeps here (inr a) = inr (listed-kept count old new d.clause (signed d) p w keeps a)
+entered-next x count old new n rest d p w keeps here (inr a) = inr (listed-kept x count old new d.clause (signed d) p w keeps a)

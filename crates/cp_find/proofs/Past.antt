@@ -38,7 +38,7 @@ past-within x cs ds r h p = record {
 }
 
 -- nothing is passed at the start
-pub past-start : (x : ℕ) (cs : List Named) (lookup : LookupView) → Covers cs lookup
+pub past-start : (x : ℕ) (cs : List Named) (lookup : LookupView) → Covers x cs lookup
     → (let first : Pair = record { by = 0; other = 0 } in IsPast x cs (record { tautology = Some 0; subsumption = Some first; strengthening = Some first; lookup = lookup }))
 past-start x cs lookup h = record {
   tautologies = λ c i l. absurd (omega (arith, l));

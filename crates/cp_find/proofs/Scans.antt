@@ -1,5 +1,5 @@
 -- The first item that passes, in lists that are made from other lists.
-use Rattle.std.proofs.Common.{◌≡◌, Bool, true, false, cond, List, [], ◌∷◌, map, Option, Some, None, refl, ◌∙◌, ap}
+use Rattle.std.proofs.Common.{◌≡◌, Bool, true, false, cond, List, [], ◌∷◌, map, Option, Some, None, refl, sym, ◌∙◌, ap}
 use Rattle.std.specs.Option.{option_map, option_or}
 use Rattle.std.specs.List.{Contains, find, flat_map}
 use Rattle.std.proofs.lemmas.List.Folds.{find-append}
@@ -54,3 +54,7 @@ first_some-nothing (a ∷ ys) = first_some-nothing ys
 -- the item that comes next gives an answer
 pub some-here : {A X : Type 0} (f : A → Option X) (all : List A) (a : A) (rest : List A) (x : X) → all ≡ a ∷ rest → f a ≡ Some x → first_some f all ≡ Some x
 some-here f all a rest x e t = ap (first_some f) e ∙ ap (λ o. option_or o (first_some f rest)) t
+
+-- or it gives none, and the answer is that of the rest
+pub none-next : {A X : Type 0} (f : A → Option X) (all : List A) (a : A) (rest : List A) → all ≡ a ∷ rest → f a ≡ None → first_some f rest ≡ first_some f all
+none-next f all a rest e t = sym (ap (first_some f) e ∙ ap (λ o. option_or o (first_some f rest)) t)

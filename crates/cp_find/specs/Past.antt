@@ -36,7 +36,7 @@ pub record IsPast (x : ℕ) (cs : List Named) (r : Reached) : Type 0 where
   pub tautologies : (c : Named) → Contains cs c → IsBelow r.tautology c.number → IsFalse (is_tautology c.clause)
   pub subsumptions : ArePassed subsumes cs r.subsumption
   pub strengthenings : ArePassed (strengthens_at x) cs r.strengthening
-  pub covers : Covers cs r.lookup
+  pub covers : Covers x cs r.lookup
 
 -- from which number on the others of a clause are left, where all pairs before the end are passed
 abbrev pub first_other : Pair → ℕ → ℕ

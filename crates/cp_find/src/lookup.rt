@@ -3,30 +3,31 @@
 //! SatELite and CaDiCaL look for the clauses that a clause subsumes through the occurrences of its literal that occurs least, and so
 //! does this, within one cell: the variable of the cell is in all of its clauses, but most of its other literals are in few. There
 //! are no tables as long as the formula's list of literals, since cells are searched one at a time and most are short. So literals
-//! share buckets, and a clause stands in the bucket of each of its literals, by its number and its signature.
+//! share buckets, and a clause stands in the bucket of each of its literals but those of the cell's variable, by its number and its
+//! signature. Cells of few clauses have no buckets: there all pairs are told by what the cell keeps of the clauses.
 //!
 //! A lookup outlives the entries at its variable: a bucket may have clauses that are gone, and a clause that it names is read in the
 //! cell. The memory of the buckets is kept for the lookups to come.
-ghost use Rattle.std.specs.Prelude.{◌≡◌, ◌<◌, ◌≤◌, ◌++◌, ◌∷◌, [], length, OnOk, IfSome, IfNone, Some, IsTrue, IsFalse, ℕ, List};
+ghost use Rattle.std.specs.Prelude.{◌≡◌, ◌≢◌, ◌<◌, ◌≤◌, ◌++◌, ◌∷◌, [], ◌⊎◌, length, slice_index_or, OnOk, IfSome, IfNone, Some, IsTrue, IsFalse, ℕ, List};
 ghost use Rattle.std.specs.List.{find, Contains};
 ghost use Rattle.std.specs.Option.{option_map};
 ghost use Rattle.cp_logic.specs.declared.named.Named.{Named};
-ghost use Rattle.cp_logic.specs.Items.{named_item};
+ghost use Rattle.cp_logic.specs.Literals.{variable_of};
 ghost use Rattle.cp_occ.specs.Cells.{from_number};
-ghost use Rattle.cp_find.specs.declared.wanted.Signed.{Signed};
+ghost use Rattle.cp_find.specs.declared.lookup.Signed.{Signed};
 ghost use Rattle.cp_find.specs.Finds.{subsumes};
 ghost use Rattle.cp_find.specs.Lookups.{AreListed, Keeps, Covers, signed, place, Serves, IsMet, IsBest, is_up_to};
 
-use crate::wanted::{Signed, Wanted};
-use cp_logic::{Clause, Lit};
-use cp_occ::{Cell, CellIter};
+use crate::wanted::Wanted;
+use cp_logic::Lit;
+use cp_occ::{Cell, Occurrence};
 use std::alloc::{AllocError, Global};
 use std::marker::Model;
 
 // So many entries stand in a bucket on average. With fewer the buckets take more memory, and filling them costs more than it saves.
 const PER_BUCKET: usize = 4;
 
-// Of so few clauses the signatures are compared all, in one bucket, which costs less than to fill buckets and to choose among them.
+// Of so few clauses all pairs are told, which costs less than to fill buckets and to choose among them.
 const FEW: usize = 16;
 
 // The same is so where there are at most so many times as many clauses as literals in one of them.
@@ -38,10 +39,12 @@ const SHORT: usize = 16;
 // So few candidates are compared in the time that it takes to look for a shorter bucket.
 const ENOUGH: usize = 4;
 
-/// Buckets of a cell's clauses, of which the first `count` are in use. With none the cell itself is looked through.
+/// Buckets of a cell's clauses, of which the first `count` are in use. With none the cell itself is looked through. It is ready once it is
+/// known whether the cell needs buckets, and they are filled.
 #[derive(Drop)]
 pub struct Lookup {
-    count: usize,
+    is_ready: bool,
+    count: u32,
     buckets: Vec<Bucket>,
 }
 
@@ -59,9 +62,10 @@ impl Model for Lookup {
 impl Lookup {
     /// No lookup. It takes no memory.
     pub(crate) fn none(alloc: Global) -> Lookup
-        ensures { (cs : List Named) → Covers cs result }
+        ensures { (x : ℕ) (cs : List Named) → Covers x cs result }
     {
         Lookup {
+            is_ready: false,
             count: 0,
             buckets: Vec::new(alloc),
         }
@@ -69,84 +73,115 @@ impl Lookup {
 
     /// No lookup any more. The memory is kept.
     pub(crate) fn forget(&mut self)
-        ensures { (cs : List Named) → Covers cs self.new }
+        ensures { (x : ℕ) (cs : List Named) → Covers x cs self.new }
     {
+        self.is_ready = false;
         self.count = 0;
     }
 
-    /// Looks the cell's clauses up, unless that is done or there is no pair of them. The error comes only for want of memory.
+    /// Looks the cell's clauses up, unless that is done or they are few. The error comes only for want of memory.
     pub(crate) fn make_ready(&mut self, alloc: Global, cell: &Cell) -> Result<(), AllocError>
-        requires { Covers cell.now.clauses self.old }
-        ensures { Covers cell.now.clauses self.new }
+        requires { Covers cell.now.variable cell.now.clauses self.old }
+        ensures { Covers cell.now.variable cell.now.clauses self.new }
     {
-        if self.count > 0 || cell.len() <= 1 {
+        if self.is_ready || cell.len() <= FEW {
             return Ok(());
         }
         self.fill(alloc, cell)
     }
 
     fn fill(&mut self, alloc: Global, cell: &Cell) -> Result<(), AllocError>
-        ensures { Covers cell.now.clauses self.new }
+        ensures { Covers cell.now.variable cell.now.clauses self.new }
     {
+        self.is_ready = true;
         self.count = 0;
         let count = bucket_count(cell);
+        if count == 0 {
+            return Ok(());
+        }
         fill_buckets(alloc, &mut self.buckets, count, cell)?;
         self.count = count;
         Ok(())
     }
 
-    /// The first clause of the cell from the number on that has all of the literals and another number than they.
+    /// The first clause of the cell from the number on that is wanted.
     pub(crate) fn first<'a>(
         &self,
         cell: &'a Cell,
         from: u64,
         wanted: &Wanted<'_>,
-    ) -> Option<(u64, &'a Clause)>
-        requires { Covers cell.now.clauses self.now }
-        ensures { option_map named_item result ≡ find (subsumes wanted.now) (from_number from cell.now.clauses) }
+    ) -> Option<&'a Occurrence>
+        requires covers { Covers cell.now.variable cell.now.clauses self.now }
+        requires variable { wanted.now.variable ≡ cell.now.variable }
+        ensures { option_map (λ o. o.now) result ≡ find (subsumes wanted.now.sought) (from_number from cell.now.clauses) }
     {
         // It says of the cell that the numbers rise.
         let _ = cell.var();
         match self.candidates(wanted) {
             Some(candidates) => best_of(cell, candidates, from, wanted),
-            None => first_of(cell.iter_from(from), wanted),
+            None => wanted.first_of(cell.occurrences_from(from)),
         }
     }
 
-    // The shortest bucket of the literals, or `None` where the cell does as well: with no lookup, or for a literal alone.
+    // The shortest bucket of the literals, or `None` where the cell does as well: with no bucket, or for literals of its variable alone.
     fn candidates(&self, wanted: &Wanted<'_>) -> Option<&[Signed]>
         ensures { IfSome result (λ list. Serves wanted.now self.now list.now) }
     {
-        let (first, others) = wanted.lits().split_first()?;
-        if self.count == 0 || others.is_empty() {
+        if self.count == 0 {
             return None;
         }
-        let mut shortest = self.bucket(*first);
-        if self.count == 1 {
-            return Some(shortest);
-        }
-        for lit in others {
-            if shortest.len() <= ENOUGH {
-                return Some(shortest);
+        let mut shortest = None;
+        for lit in wanted.lits() {
+            if lit.var() == wanted.var() {
+                continue;
             }
             let bucket = self.bucket(*lit);
-            if bucket.len() < shortest.len() {
-                shortest = bucket;
+            if bucket.len() <= ENOUGH {
+                return Some(bucket);
             }
+            shortest = Some(shorter(shortest, bucket));
         }
-        Some(shortest)
+        shortest
     }
 
     // The clauses that share the literal's bucket.
     fn bucket(&self, lit: Lit) -> &[Signed]
         requires { 0 < self.now.count }
-        ensures { (cs : List Named) (c : Named) → Covers cs self.now → Contains cs c → Contains c.clause lit → Contains result.now (signed c) }
+        ensures { (x : ℕ) (cs : List Named) (c : Named) → Covers x cs self.now → Contains cs c → Contains c.clause lit → variable_of lit ≢ x → Contains result.now (signed c) }
     {
         self.buckets[place(lit, self.count)].as_slice()
     }
 }
 
-/// Clauses that share a remainder of a literal's code, seen as the list of their numbers and signatures.
+// The shorter one of the two lists.
+fn shorter<'a>(first: Option<&'a [Signed]>, second: &'a [Signed]) -> &'a [Signed]
+    ensures { (first.entry ≡ Some result) ⊎ (result.now ≡ second.now) }
+{
+    match first {
+        Some(list) if list.len() <= second.len() => list,
+        _ => second,
+    }
+}
+
+/// The number and the signature of a clause.
+#[derive(Clone, Copy)]
+pub(crate) struct Signed {
+    number: u64,
+    bits: u64,
+}
+
+impl Signed {
+    fn of(clause: &Occurrence) -> Signed
+        ensures { result ≡ signed clause.now }
+    {
+        Signed {
+            number: clause.number(),
+            bits: clause.signature(),
+        }
+    }
+}
+
+/// Clauses that have literals of the same place, seen as the list of their numbers and signatures.
 #[derive(Drop)]
 pub(crate) struct Bucket {
     clauses: Vec<Signed>,
@@ -154,7 +189,7 @@ pub(crate) struct Bucket {
 
 impl Model for Bucket {
     ghost use Rattle.std.specs.Prelude.{List};
-    ghost use Rattle.cp_find.specs.declared.wanted.Signed.{Signed};
+    ghost use Rattle.cp_find.specs.declared.lookup.Signed.{Signed};
 
     ghost Value = { List Signed };
 
@@ -196,30 +231,28 @@ impl Bucket {
     }
 }
 
-// The bucket of the literal, of so many. The code is multiplied first: the variables of an encoded problem often stand at equal distances,
-// and where the count shares a factor with that, the remainders of their codes would be few.
-fn place(lit: Lit, count: usize) -> usize
+// The bucket of the literal, of so many: they share the numbers below 2 ^ 32 evenly. The code is multiplied first, since the variables of
+// an encoded problem often stand at equal distances.
+fn place(lit: Lit, count: u32) -> usize
     requires { 0 < count }
     ensures value { result ≡ place lit count }
     ensures within { result < count }
 {
-    let spread = u64::from(lit.code()) * 2_654_435_769;
-    (spread >> 16) as usize % count
+    let spread = u64::from(lit.code()) * 2_654_435_769 % 4_294_967_296;
+    (u64::from(count) * spread / 4_294_967_296) as usize
 }
 
-// How many buckets to fill for the cell's clauses.
-fn bucket_count(cell: &Cell) -> usize
-    ensures { 0 < result }
-{
+// How many buckets to fill for the cell's clauses, if any.
+fn bucket_count(cell: &Cell) -> u32 {
     let clauses = cell.len();
     if clauses <= FEW {
-        return 1;
+        return 0;
     }
     let literals = literal_count(cell);
     if literals / clauses <= SHORT && clauses / MOST_TIMES <= literals / clauses {
-        return 1;
+        return 0;
     }
-    (literals / PER_BUCKET).max(1)
+    u32::try_from(literals / PER_BUCKET).unwrap_or(u32::MAX)
 }
 
 // How many literals the clauses have together.
@@ -235,17 +268,18 @@ fn literal_count(cell: &Cell) -> usize {
 fn fill_buckets(
     alloc: Global,
     buckets: &mut Vec<Bucket>,
-    count: usize,
+    count: u32,
     cell: &Cell,
 ) -> Result<(), AllocError>
     requires { 0 < count }
     ensures len { OnOk result (count ≤ length buckets.new.items) }
-    ensures covers { OnOk result (Covers cell.now.clauses (record { count = count; buckets = buckets.new.items })) }
+    ensures covers { OnOk result (Covers cell.now.variable cell.now.clauses (record { count = count; buckets = buckets.new.items })) }
 {
-    clear_first(buckets.as_mut_slice(), count);
-    add_buckets(alloc, buckets, count)?;
-    for (number, clause) in cell.iter() {
-        enter(buckets, count, number, clause)?;
+    let var = cell.var();
+    clear_first(buckets.as_mut_slice(), count as usize);
+    add_buckets(alloc, buckets, count as usize)?;
+    for clause in cell.occurrences() {
+        enter(buckets, count, var, clause)?;
     }
     Ok(())
 }
@@ -267,54 +301,44 @@ fn add_buckets(alloc: Global, buckets: &mut Vec<Bucket>, count: usize) -> Result
     Ok(())
 }
 
-// Enters the clause into the bucket of each of its literals, of the first so many buckets.
+// Enters the clause into the bucket of each of its literals of other variables, of the first so many buckets.
 fn enter(
     buckets: &mut Vec<Bucket>,
-    count: usize,
-    number: u64,
-    clause: &Clause,
+    count: u32,
+    var: u32,
+    clause: &Occurrence,
 ) -> Result<(), AllocError>
     requires some { 0 < count }
     requires within { count ≤ length buckets.old.items }
     ensures len { OnOk result (length buckets.new.items ≡ length buckets.old.items) }
     ensures kept { OnOk result (Keeps buckets.old.items buckets.new.items) }
-    ensures entered { OnOk result (AreListed count buckets.new.items clause.now (signed (record { number = number; clause = clause.now }))) }
+    ensures entered { OnOk result (AreListed var count buckets.new.items clause.now.clause (signed clause.now)) }
 {
-    if count == 1 {
-        return enter_once(buckets, number, clause);
+    let entry = Signed::of(clause);
+    for lit in clause.clause().lits() {
+        enter_at(buckets, count, var, *lit, entry)?;
     }
-    enter_each(buckets, count, number, clause)
-}
-
-// Enters the clause into the first bucket, which is that of each literal where it is alone.
-fn enter_once(buckets: &mut Vec<Bucket>, number: u64, clause: &Clause) -> Result<(), AllocError>
-    requires { 1 ≤ length buckets.old.items }
-    ensures len { OnOk result (length buckets.new.items ≡ length buckets.old.items) }
-    ensures kept { OnOk result (Keeps buckets.old.items buckets.new.items) }
-    ensures entered { OnOk result (AreListed 1 buckets.new.items clause.now (signed (record { number = number; clause = clause.now }))) }
-{
-    let entry = Signed::new(number, clause);
-    buckets[0].put(entry)?;
     Ok(())
 }
 
-// Enters the clause into the bucket of each of its literals, one by one.
-fn enter_each(
+// Enters the clause into the bucket of the literal, unless that is of the variable.
+fn enter_at(
     buckets: &mut Vec<Bucket>,
-    count: usize,
-    number: u64,
-    clause: &Clause,
+    count: u32,
+    var: u32,
+    lit: Lit,
+    entry: Signed,
 ) -> Result<(), AllocError>
     requires some { 0 < count }
     requires within { count ≤ length buckets.old.items }
     ensures len { OnOk result (length buckets.new.items ≡ length buckets.old.items) }
     ensures kept { OnOk result (Keeps buckets.old.items buckets.new.items) }
-    ensures entered { OnOk result (AreListed count buckets.new.items clause.now (signed (record { number = number; clause = clause.now }))) }
+    ensures entered { OnOk result (variable_of lit ≢ var → (d : List Signed) → Contains (slice_index_or buckets.new.items (place lit count) d) entry) }
 {
-    let entry = Signed::new(number, clause);
-    for lit in clause.lits() {
-        buckets[place(*lit, count)].put(entry)?;
+    if lit.var() == var {
+        return Ok(());
     }
+    buckets[place(lit, count)].put(entry)?;
     Ok(())
 }
 
@@ -328,19 +352,20 @@ fn is_last(clauses: &[Signed], clause: Signed) -> bool
     last.number == clause.number && last.bits == clause.bits
 }
 
-// The first clause of the cell from the number on that has all of the literals and another number, of those that are candidates.
+// The first clause of the cell from the number on that is wanted, of those that are candidates.
 fn best_of<'a>(
     cell: &'a Cell,
     candidates: &[Signed],
     from: u64,
     wanted: &Wanted<'_>,
-) -> Option<(u64, &'a Clause)>
-    ensures { IsBest wanted.now cell.now.clauses from candidates.now (option_map named_item result) }
+) -> Option<&'a Occurrence>
+    ensures { IsBest wanted.now.sought cell.now.clauses from candidates.now (option_map (λ o. o.now) result) }
 {
+    let bits = wanted.bits();
     let mut best = None;
     for candidate in candidates {
         // The signature passes over nearly all.
-        if wanted.may_be_in(*candidate) {
+        if bits & candidate.bits == bits {
             best = better(cell, *candidate, from, wanted, best);
         }
     }
@@ -353,61 +378,55 @@ fn better<'a>(
     candidate: Signed,
     from: u64,
     wanted: &Wanted<'_>,
-    best: Option<(u64, &'a Clause)>,
-) -> Option<(u64, &'a Clause)>
-    ensures { (seen : List Signed) → IsBest wanted.now cell.now.clauses from seen (option_map named_item best.entry) → IsBest wanted.now cell.now.clauses from (seen ++ candidate ∷ []) (option_map named_item result) }
+    best: Option<&'a Occurrence>,
+) -> Option<&'a Occurrence>
+    ensures { (seen : List Signed) → IsBest wanted.now.sought cell.now.clauses from seen (option_map (λ o. o.now) best.entry) → IsBest wanted.now.sought cell.now.clauses from (seen ++ candidate ∷ []) (option_map (λ o. o.now) result) }
 {
     if candidate.number < from || is_up_to(best, candidate.number) {
         return best;
     }
     match met(cell, candidate, wanted) {
-        Some(clause) => Some((candidate.number, clause)),
+        Some(found) => Some(found),
         None => best,
     }
 }
 
 // Whether there is a clause, with the number or a lesser one.
-fn is_up_to(clause: Option<(u64, &Clause)>, number: u64) -> bool
-    ensures { result ≡ is_up_to (option_map named_item clause.entry) number }
+fn is_up_to(clause: Option<&Occurrence>, number: u64) -> bool
+    ensures { result ≡ is_up_to (option_map (λ o. o.now) clause.entry) number }
 {
     match clause {
-        Some((found, _)) => found <= number,
+        Some(found) => found.number() <= number,
         None => false,
     }
 }
 
-// The clause of the candidate, if the cell has it and it has all of the literals and another number.
-fn met<'a>(cell: &'a Cell, candidate: Signed, wanted: &Wanted<'_>) -> Option<&'a Clause>
-    ensures some { IfSome result (λ clause. IsMet wanted.now cell.now.clauses (record { number = candidate.number; clause = clause.now })) }
-    ensures none { IfNone result ((c : Named) → Contains cell.now.clauses c → signed c ≡ candidate → IsFalse (subsumes wanted.now c)) }
+// The clause of the candidate, if the cell has it and it is wanted.
+fn met<'a>(cell: &'a Cell, candidate: Signed, wanted: &Wanted<'_>) -> Option<&'a Occurrence>
+    ensures some { IfSome result (λ o. IsMet wanted.now.sought cell.now.clauses o.now) }
+    ensures number { IfSome result (λ o. o.now.number ≡ candidate.number) }
+    ensures none { IfNone result ((c : Named) → Contains cell.now.clauses c → signed c ≡ candidate → IsFalse (subsumes wanted.now.sought c)) }
 {
-    let clause = standing(cell, candidate.number)?;
-    if wanted.is_in(candidate.number, clause) {
-        Some(clause)
+    let found = standing(cell, candidate.number)?;
+    if wanted.is_met_by(found) {
+        Some(found)
     } else {
         None
     }
 }
 
 // The clause that stands in the cell under the number.
-fn standing(cell: &Cell, number: u64) -> Option<&Clause>
-    ensures some { IfSome result (λ clause. Contains cell.now.clauses (record { number = number; clause = clause.now })) }
-    ensures only { (c : Named) → Contains cell.now.clauses c → c.number ≡ number → option_map (λ clause. clause.now) result ≡ Some c.clause }
+fn standing(cell: &Cell, number: u64) -> Option<&Occurrence>
+    ensures some { IfSome result (λ o. Contains cell.now.clauses o.now) }
+    ensures number { IfSome result (λ o. o.now.number ≡ number) }
+    ensures only { (c : Named) → Contains cell.now.clauses c → c.number ≡ number → option_map (λ o. o.now) result ≡ Some c }
 {
     // It says of the cell that the numbers rise.
     let _ = cell.var();
-    let (found, clause) = cell.iter_from(number).next()?;
-    if found == number { Some(clause) } else { None }
-}
-
-// The first of the clauses that has all of the literals and another number.
-fn first_of<'a>(clauses: CellIter<'a>, wanted: &Wanted<'_>) -> Option<(u64, &'a Clause)>
-    ensures { option_map named_item result ≡ find (subsumes wanted.now) clauses.entry }
-{
-    for (number, clause) in clauses {
-        if wanted.is_in(number, clause) {
-            return Some((number, clause));
-        }
+    let found = cell.occurrences_from(number).next()?;
+    if found.number() == number {
+        Some(found)
+    } else {
+        None
     }
-    None
 }

@@ -2,6 +2,7 @@
 ghost use Rattle.std.specs.Prelude.{◌≡◌, IfOk};
 
 use cp_logic::{Clause, Named};
+use cp_occ::Occurrence;
 use std::alloc::AllocError;
 
 // A second clause of the same literals, with its number.
@@ -12,4 +13,11 @@ pub(crate) fn named(number: u64, clause: &Clause) -> Result<Named, AllocError>
         number,
         clause: clause.again()?,
     })
+}
+
+// The same of a clause that a cell keeps.
+pub(crate) fn owned(clause: &Occurrence) -> Result<Named, AllocError>
+    ensures { IfOk result (λ c. c ≡ clause.now) }
+{
+    named(clause.number(), clause.clause())
 }

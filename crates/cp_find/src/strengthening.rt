@@ -4,11 +4,11 @@
 //! As in SatELite (Een and Biere, SAT 2005, "Effective Preprocessing in SAT through Variable and Clause Elimination"), MiniSat's
 //! `Clause::subsumes` and CaDiCaL's `subsume.cpp`. The resolvent of the two clauses on the variable is a subset of the first one,
 //! so this is subsumption by a clause with one literal turned to its negation. Hence the test: in `by` the literal of the variable
-//! is turned, and the clauses that have all of the turned literals are looked for as those that a clause subsumes. A literal and
-//! its negation are neighbours in the order, so the turned list is ascending too. A clause with both signs of the variable
-//! strengthens none at it: turned, it would still have the literal that goes. So each clause has at most one literal to take from
-//! others, which is found once, and the pairs are looked at by ascending numbers, so that the answer is the least pair.
-ghost use Rattle.std.specs.Prelude.{◌≡◌, ◌≤◌, ◌^◌, IfOk, OnOk, map};
+//! is turned, and the clauses that have all of the turned literals are looked for as those that a clause subsumes. A clause with
+//! both signs of the variable strengthens none at it: turned, it would still have the literal that goes. So each clause has at most
+//! one literal to take from others, which is found once, and the pairs are looked at by ascending numbers, so that the answer is the
+//! least pair.
+ghost use Rattle.std.specs.Prelude.{◌≡◌, ◌≤◌, ◌^◌, IfOk};
 ghost use Rattle.std.specs.List.{find};
 ghost use Rattle.std.specs.Option.{option_map};
 ghost use Rattle.cp_logic.specs.Items.{named_item};
@@ -18,11 +18,11 @@ ghost use Rattle.cp_logic.specs.Views.{entry_of};
 ghost use Rattle.cp_find.specs.Finds.{struck, turned, strengthens};
 ghost use Rattle.cp_find.specs.Past.{IsPast, first_other};
 
-use crate::pairs::named;
+use crate::pairs::owned;
 use crate::reached::{Pair, Reached};
 use crate::wanted::Wanted;
-use cp_logic::{Clause, Entry, Lit, Named};
-use cp_occ::Cell;
+use cp_logic::{Entry, Lit, Named};
+use cp_occ::{Cell, Occurrence};
 use std::alloc::{AllocError, Global};
 
 /// The first pair of clauses of the cell of which one takes a literal of the cell's variable from the other, by the number of the
@@ -56,22 +56,24 @@ pub fn next_strengthened(
     let Some(end) = reached.strengthening else {
         return Ok(None);
     };
-    let mut wanted = Vec::new(alloc);
     reached.lookup.make_ready(alloc, cell)?;
-    for (number, by) in cell.iter_from(end.by) {
+    for by in cell.occurrences_from(end.by) {
         let Some(lit) = struck(by, var) else {
             continue;
         };
-        fill_turned(&mut wanted, by.lits(), lit)?;
-        let turned = Wanted::new(number, wanted.as_slice());
-        if let Some((other, on)) = reached.lookup.first(cell, end.first_other(number), &turned) {
-            let by = named(number, by)?;
+        let wanted = Wanted::strengthened(var, by, lit);
+        let from = end.first_other(by.number());
+        if let Some(on) = reached.lookup.first(cell, from, &wanted) {
+            let by = owned(by)?;
             let new = Named {
                 number: next,
-                clause: on.without(alloc, lit)?,
+                clause: on.clause().without(alloc, lit)?,
             };
-            let on = named(other, on)?;
-            reached.strengthening = Some(Pair { by: number, other });
+            let on = owned(on)?;
+            reached.strengthening = Some(Pair {
+                by: by.number,
+                other: on.number,
+            });
             return Ok(Some(Entry::Strengthen { by, on, lit, new }));
         }
     }
@@ -80,39 +82,21 @@ pub fn next_strengthened(
 }
 
 // The literal that the clause can take from others at the variable: the negation of its own there, where it has one alone.
-fn struck(by: &Clause, var: u32) -> Option<Lit>
+fn struck(by: &Occurrence, var: u32) -> Option<Lit>
     requires low { 1 ≤ var }
     requires high { var ≤ 2000000 }
-    ensures { result ≡ struck var by.now }
+    ensures { result ≡ struck var by.now.clause }
 {
     let positive = Lit::new(var, true);
     let negative = positive.negated();
-    if by.contains(positive) {
-        if by.contains(negative) {
+    if by.has(positive) {
+        if by.has(negative) {
             return None;
         }
         return Some(negative);
     }
-    if by.contains(negative) {
+    if by.has(negative) {
         return Some(positive);
     }
     None
-}
-
-// Makes the list that of the literals, with the one given in place of its negation.
-fn fill_turned(list: &mut Vec<Lit>, lits: &[Lit], lit: Lit) -> Result<(), AllocError>
-    ensures { OnOk result (list.new.items ≡ map (turned lit) lits.now) }
-{
-    list.clear();
-    for other in lits {
-        list.push(turned(*other, lit))?;
-    }
-    Ok(())
-}
-
-// The first literal, and the second in place of its negation.
-fn turned(first: Lit, lit: Lit) -> Lit
-    ensures { result ≡ turned lit first }
-{
-    if first == lit.negated() { lit } else { first }
 }

@@ -6,7 +6,7 @@
 //! clauses and no others, and a clause that is removed by a clause with the variable has the variable too. The pairs are looked at
 //! by ascending numbers, so that the answer is the least pair; of two equal clauses the one with the less number removes the other.
 //! For each clause those are looked at that lie in the shortest bucket of its literals, or all where there are no buckets, and each
-//! is told by its signature first.
+//! is told by what is kept of it first.
 ghost use Rattle.std.specs.Prelude.{◌≡◌, ◌≤◌, ◌^◌, IfOk};
 ghost use Rattle.std.specs.List.{find};
 ghost use Rattle.std.specs.Option.{option_map};
@@ -16,7 +16,7 @@ ghost use Rattle.cp_logic.specs.Legality.{subsumptions, first_of_kind};
 ghost use Rattle.cp_logic.specs.Views.{entry_of};
 ghost use Rattle.cp_find.specs.Past.{IsPast, first_other};
 
-use crate::pairs::named;
+use crate::pairs::owned;
 use crate::reached::{Pair, Reached};
 use crate::wanted::Wanted;
 use cp_logic::Entry;
@@ -44,18 +44,21 @@ pub fn next_subsumed(
     ensures found { IfOk result (λ o. option_map entry_of o ≡ first_of_kind cell.now.variable cell.now.clauses (subsumptions cell.now.clauses)) }
     ensures past { IsPast cell.now.variable cell.now.clauses reached.new }
 {
-    // It says of the cell that each clause has the variable.
-    let _ = cell.var();
+    let var = cell.var();
     let Some(end) = reached.subsumption else {
         return Ok(None);
     };
     reached.lookup.make_ready(alloc, cell)?;
-    for (number, by) in cell.iter_from(end.by) {
-        let wanted = Wanted::new(number, by.lits());
-        if let Some((other, gone)) = reached.lookup.first(cell, end.first_other(number), &wanted) {
-            let by = named(number, by)?;
-            let gone = named(other, gone)?;
-            reached.subsumption = Some(Pair { by: number, other });
+    for by in cell.occurrences_from(end.by) {
+        let wanted = Wanted::subsumed(var, by);
+        let from = end.first_other(by.number());
+        if let Some(gone) = reached.lookup.first(cell, from, &wanted) {
+            let by = owned(by)?;
+            let gone = owned(gone)?;
+            reached.subsumption = Some(Pair {
+                by: by.number,
+                other: gone.number,
+            });
             return Ok(Some(Entry::Subsume { by, gone }));
         }
     }

@@ -7,3 +7,4 @@ pub mod Posted
 mod Searches
 pub mod Sided
 mod SharedBits
+mod Pairs

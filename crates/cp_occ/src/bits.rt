@@ -47,7 +47,7 @@ impl Bits {
 }
 
 // The bit of the literal.
-fn bit_of(lit: Lit) -> u64
+pub(crate) fn bit_of(lit: Lit) -> u64
     ensures { result ≡ 2 ^ bit_of lit }
 {
     signature([lit].as_slice())

@@ -7,6 +7,8 @@ use crate::place::Place;
 use cp_logic::{Clause, Lit, opposite};
 use std::marker::Model;
 
+mod pairs;
+
 /// A clause with its number, seen as the numbered clause.
 ///
 /// It keeps a literal that the clause has, and whether the clause is a tautology. If it isn't, it hasn't the literal's negation. So which

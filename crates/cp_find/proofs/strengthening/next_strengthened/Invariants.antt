@@ -7,9 +7,9 @@ use Rattle.cp_find.proofs.Firsts.{strengthening_by}
 use Rattle.cp_find.proofs.strengthening.next_strengthened.Given as goal
 
 -- the first strengthening is the first by those that are left, with the others that are left to each
-abbrev pub invariant-loop-number : goal.invariant-loop-number
-invariant-loop-number l = record {
-  left : first_some (λ (b : Named). strengthening_by l.cell.variable l.next (from_number (first_other l.end b.number) l.cell.clauses) b) l.number-iterator
+abbrev pub invariant-loop-by : goal.invariant-loop-by
+invariant-loop-by l = record {
+  left : first_some (λ (b : Named). strengthening_by l.cell.variable l.next (from_number (first_other l.end b.number) l.cell.clauses) b) l.by-iterator
       ≡ first_some (strengthening_by l.cell.variable l.next l.cell.clauses) l.cell.clauses;
   past : IsPast l.cell.variable l.cell.clauses l.reached;
 }

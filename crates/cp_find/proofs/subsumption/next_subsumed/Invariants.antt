@@ -7,8 +7,8 @@ use Rattle.cp_find.proofs.Firsts.{subsumption_by}
 use Rattle.cp_find.proofs.subsumption.next_subsumed.Given as goal
 
 -- the first subsumption is the first by those that are left, with the others that are left to each
-abbrev pub invariant-loop-number : goal.invariant-loop-number
-invariant-loop-number l = record {
-  left : first_some (λ (b : Named). subsumption_by (from_number (first_other l.end b.number) l.cell.clauses) b) l.number-iterator ≡ first_some (subsumption_by l.cell.clauses) l.cell.clauses;
+abbrev pub invariant-loop-by : goal.invariant-loop-by
+invariant-loop-by l = record {
+  left : first_some (λ (b : Named). subsumption_by (from_number (first_other l.end b.number) l.cell.clauses) b) l.by-iterator ≡ first_some (subsumption_by l.cell.clauses) l.cell.clauses;
   past : IsPast l.cell.variable l.cell.clauses l.reached;
 }

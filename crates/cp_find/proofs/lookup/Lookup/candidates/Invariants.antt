@@ -1,5 +1,7 @@
+use Rattle.std.specs.Prelude.{IfSome}
 use Rattle.cp_find.specs.Lookups.{Serves}
 use Rattle.cp_find.proofs.lookup.Lookup.candidates.Given as goal
 
+-- the shortest so far serves
 abbrev pub invariant-loop-lit : goal.invariant-loop-lit
-invariant-loop-lit l = Serves l.wanted l.self l.shortest
+invariant-loop-lit l = IfSome l.shortest (λ list. Serves l.wanted l.self list.now)
