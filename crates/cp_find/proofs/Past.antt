@@ -174,10 +174,6 @@ module _ (p : Named → Bool) where
 below-from : (n m : ℕ) → nat_le n m ≡ false → m < n
 below-from n m e = grind (arith, nat_tests)
 
--- from 0 on all are left
-pub all-from_zero : (n : ℕ) (cs : List Named) → n ≤ 0 → from_number n cs ≡ cs
-all-from_zero n cs h = filter_all (λ (c : Named). nat_le n c.number) cs (λ c i. grind (arith, nat_tests))
-
 -- ---- tautologies
 
 module _ (x : ℕ) (cs : List Named) where

@@ -407,6 +407,9 @@ fn met<'a>(cell: &'a Cell, candidate: Signed, wanted: &Wanted<'_>) -> Option<&'a
     ensures number { IfSome result (λ o. o.now.number ≡ candidate.number) }
     ensures none { IfNone result ((c : Named) → Contains cell.now.clauses c → signed c ≡ candidate → IsFalse (subsumes wanted.now.sought c)) }
 {
+    if candidate.number == wanted.number() {
+        return None;
+    }
     let found = standing(cell, candidate.number)?;
     if wanted.is_met_by(found) {
         Some(found)

@@ -67,6 +67,13 @@ impl<'a> Wanted<'a> {
         self.var
     }
 
+    /// The number of the clause, which isn't looked for itself.
+    pub(crate) fn number(&self) -> u64
+        ensures { result ≡ self.now.sought.number }
+    {
+        self.by.number()
+    }
+
     /// The literals of the clause. Each wanted clause has those of other variables than the cell's.
     pub(crate) fn lits(&self) -> &'a [Lit]
         ensures { (l : ℕ) → Contains result.now l → variable_of l ≢ self.now.variable → Contains self.now.sought.clause l }

@@ -157,3 +157,7 @@ IsListed-without x cs n l = record {
   rising = IsAscending-numbers (λ (c : Named). not (c.number == n)) cs l.rising;
   have = All-filter (λ (c : Named). not (c.number == n)) (IsOf x) cs l.have;
 }
+
+-- all numbers are 0 or above it
+pub all-from_zero : (cs : List Named) → from_number 0 cs ≡ cs
+all-from_zero cs = filter_all (λ (c : Named). nat_le 0 c.number) cs (λ c i. grind (arith, nat_tests))

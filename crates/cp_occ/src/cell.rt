@@ -256,6 +256,9 @@ fn occurrences_from(occurrences: &[Occurrence], number: u64) -> &[Occurrence]
     requires { IsAscending (numbers_of occurrences.now) }
     ensures { result.now ≡ from_number number occurrences.now }
 {
+    if number == 0 {
+        return occurrences;
+    }
     let at = occurrences.partition_point(|occurrence| occurrence.number() < number);
     let (_, left) = occurrences.split_at(at);
     left
